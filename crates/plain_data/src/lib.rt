@@ -1,0 +1,15 @@
+//! The small types in which public calls hand texts, lists and want of memory over.
+//!
+//! A [`Text`] is a `String` and [`Rows`] are a `Vec`, made from it and giving it back without
+//! memory. Contracts see a `Text` as the list of its bytes and `Rows` as the list of their items,
+//! so that a definition can build one and two of them are equal where their lists are.
+//! [`OutOfMemory`] is the error of a call that fails for want of memory alone.
+#![tactic(auto)]
+
+mod out_of_memory;
+mod rows;
+mod text;
+
+pub use out_of_memory::OutOfMemory;
+pub use rows::Rows;
+pub use text::Text;

@@ -1,0 +1,9 @@
+pub mod Answers
+pub mod Faults
+pub mod Fakes
+pub mod Files
+pub mod MemFiles
+pub mod MemText
+pub mod Runs
+pub mod Snags
+pub mod SureFiles

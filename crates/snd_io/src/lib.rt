@@ -1,0 +1,28 @@
+//! The outside of the engine: stores of files and text sinks, as traits with meanings, and fakes
+//! of them in memory.
+//!
+//! A [`Depot`] is a store of files that gives a file whole and writes one file at a time, in
+//! pieces. A [`Sink`] takes text. Both count their faults: a call answers `Failed` only where the
+//! count rose. What they hold is told to contracts where it can be: a fake in memory tells its
+//! files, a disk tells nothing, and every promise on causes holds over both.
+//!
+//! [`SureDepot`] never fails. [`MemDepot`] and [`MemSink`] fail at the calls that were listed,
+//! each by a [`Snag`].
+#![tactic(auto)]
+
+mod answers;
+mod depot;
+mod entries;
+mod mem_depot;
+mod mem_sink;
+mod sink;
+mod snag;
+mod sure_depot;
+
+pub use answers::{Fetch, Put};
+pub use depot::Depot;
+pub use mem_depot::MemDepot;
+pub use mem_sink::MemSink;
+pub use sink::Sink;
+pub use snag::Snag;
+pub use sure_depot::SureDepot;

@@ -1,0 +1,6 @@
+mod WordLemmas
+mod FaultLemmas
+mod LayoutLemmas
+mod FrameLemmas
+pub mod StateLemmas
+mod RunLemmas

@@ -1,0 +1,5 @@
+pub mod Buses
+pub mod IsScene
+pub mod Limits
+pub mod Names
+pub mod SceneData

@@ -1,0 +1,30 @@
+//! What a scene is: the sounds, groups and splitters that a script names, how they are wired to
+//! the endpoint, and the edits that change them while the scene plays.
+//!
+//! A [`Scene`] is made once, from a script, and read by all that renders it. It keeps its limits by
+//! its type: whoever holds one knows that its rate is at most [`MAX_RATE`], that each sound names a
+//! resource that is there, and that each row names a node that is there. So a reader of scenes
+//! tests nothing again. Who writes the literal `Scene { .. }` owes these facts.
+//!
+//! Nodes are numbered from 0 in the order of the script, and the endpoint has the next number.
+//! Output buses are numbered from 0, node by node. Times are counted in frames of the scene's rate,
+//! and gains in 1/65536. This form of scenes and its limits are this project's own.
+#![tactic(auto)]
+
+mod bus_row;
+mod edit;
+mod limits;
+mod name;
+mod node;
+mod reply;
+mod resource;
+mod scene;
+
+pub use bus_row::BusRow;
+pub use edit::{Edit, EditRow};
+pub use limits::{MAX_FILE_BYTES, MAX_LENGTH, MAX_NAME_BYTES, MAX_RATE, UNIT_GAIN};
+pub use name::{is_file, is_name};
+pub use node::{Node, NodeKind};
+pub use reply::Reply;
+pub use resource::Resource;
+pub use scene::Scene;

@@ -1,0 +1,14 @@
+/// The highest sample rate of a scene, in Hz.
+pub const MAX_RATE: u32 = 768_000;
+
+/// The longest scene, in frames. It is also the last frame that a time of a scene can name.
+pub const MAX_LENGTH: u32 = 16_777_216;
+
+/// The most bytes of the name of a resource or a node.
+pub const MAX_NAME_BYTES: usize = 64;
+
+/// The most bytes of the name of a sound file.
+pub const MAX_FILE_BYTES: usize = 255;
+
+/// The gain that leaves a sample as it is, in 1/65536.
+pub const UNIT_GAIN: u32 = 65_536;

@@ -1,0 +1,20 @@
+/// What came of an edit. On each reply but `Done` nothing changed.
+#[derive(Debug, Clone, Copy, PartialEq, Eq)]
+pub enum Reply {
+    /// The edit was made.
+    Done,
+    /// The node has no such output.
+    NoSuchBus,
+    /// The target is a sound, which has no input.
+    NoInput,
+    /// The bus is attached already, to the node `to`.
+    AlreadyAttached { to: u32 },
+    /// The bus would lead back to its own node; `node` is the target.
+    Cycle { node: u32 },
+    /// The bus isn't attached.
+    NotAttached,
+    /// The gain is above 1048576, which is 16.0.
+    GainTooLarge,
+    /// The node isn't a sound.
+    NotSound,
+}

@@ -1,0 +1,70 @@
+//! The program `scenetool`: it hands its words, the files of the system and standard output to the
+//! commands, and ends with the status that they answer.
+#![tactic(auto)]
+
+use snd_tools::{DiskDepot, Status, TextOut, run_tool};
+use std::process::ExitCode;
+use std::{env, io};
+
+const HELP: &str = "\
+scenetool renders scenes of sound to WAVE files.
+
+  scenetool mix SCENE OUT    reads the script SCENE and the sound files that it names,
+                             and writes the WAVE file OUT; the paths are 1 to 255 bytes
+  scenetool --help           prints this text
+  scenetool --version        prints the version
+
+It ends with one of these statuses:
+
+   0  done
+   1  there was no memory
+   2  the words are none of the forms above
+   3  a file could not be read or written
+   4  SCENE or a sound file is not there
+   8  this text could not be printed
+  10  the scene, or its sound file, is of a form that is not built yet
+
+After 2, 4 and 10 no file has changed. README.md and docs/ in the repository say more.
+";
+
+const VERSION: &str = "scenetool 0.1.0\n";
+
+/// The status of a text that could not be printed.
+const NOT_PRINTED: u8 = 8;
+
+fn main(rt: HostRuntime) -> ExitCode {
+    let words = match words(&rt) {
+        Ok(words) => words,
+        Err(status) => return ExitCode::from(status.code()),
+    };
+    match words.as_slice() {
+        [word] if word.as_str() == "--help" => print(&rt, HELP),
+        [word] if word.as_str() == "--version" => print(&rt, VERSION),
+        words => ExitCode::from(run(&rt, words).code()),
+    }
+}
+
+/// The words after the program's name. A word that isn't UTF-8 doesn't fit any form.
+fn words(rt: &HostRuntime) -> Result<Vec<String>, Status> {
+    match env::args(rt) {
+        Ok(args) => match args.skip(1).collect(rt.alloc()) {
+            Ok(words) => Ok(words),
+            Err(_) => Err(Status::OutOfMemory),
+        },
+        Err(error) if error.kind() == io::ErrorKind::OutOfMemory => Err(Status::OutOfMemory),
+        Err(_) => Err(Status::Usage { word: 0 }),
+    }
+}
+
+fn run(rt: &HostRuntime, words: &[String]) -> Status {
+    let mut depot = DiskDepot::new(rt);
+    let mut text = TextOut::new(io::writer(rt));
+    run_tool(rt.alloc(), words, &mut depot, &mut text)
+}
+
+fn print(rt: &impl Print, text: &str) -> ExitCode {
+    match rt.print(text) {
+        Ok(()) => ExitCode::SUCCESS,
+        Err(_) => ExitCode::from(NOT_PRINTED),
+    }
+}

@@ -1,0 +1,4 @@
+pub mod Documents
+pub mod Outcomes
+pub mod Pieces
+pub mod Rows

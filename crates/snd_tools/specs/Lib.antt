@@ -1,0 +1,9 @@
+pub mod Meets
+pub mod Outcome
+pub mod PlainWave
+pub mod Reading
+pub mod ScriptFields
+pub mod SingleScript
+pub mod Statuses
+pub mod Words
+pub mod WordsRead

@@ -1,0 +1,32 @@
+//! Reads what a WAVE file says of its sound.
+//!
+//! `survey` goes over the chunks of a file by their sizes, and answers the format of the sound,
+//! where its data stands and how many frames there are, or the first fault. It takes RIFF and RF64
+//! files of linear PCM, A-law, mu-law and IMA ADPCM, reads headers alone, and takes no memory.
+//!
+//! The rules are those of Microsoft and IBM, "Multimedia Programming Interface and Data
+//! Specifications 1.0" (RIFF WAVE), Microsoft, "Multiple Channel Audio Data and WAVE Files" (the
+//! extensible format), EBU Tech 3306 (RF64) and Microsoft's description of IMA ADPCM in WAVE files.
+//! What is more lenient here says so where it stands: a `data` chunk that passes the end of the
+//! file is cut there, the last pad byte may be absent, a `fact` of 0 frames is ignored, and sizes
+//! and fields that the sound doesn't need are not looked at.
+#![tactic(auto)]
+
+mod chunks;
+mod file;
+mod format;
+mod found;
+mod frames;
+mod kind;
+mod laws;
+mod numbers;
+mod step_indices;
+mod walk;
+mod wave;
+mod wave_fault;
+
+pub use file::survey;
+pub use kind::Kind;
+pub use laws::{one_chunk_list, wave_from_its_chunks, wave_keeps_its_laws};
+pub use wave::Wave;
+pub use wave_fault::WaveFault;

@@ -1,0 +1,32 @@
+/// Why a file is refused. Where several hold, the first is answered, in the order of `survey`.
+#[derive(Clone, Copy, Debug, PartialEq, Eq)]
+pub enum WaveFault {
+    /// The file doesn't begin with `RIFF` or `RF64`.
+    NotRiff,
+    /// The form at byte 8 isn't `WAVE`.
+    NotWave,
+    /// An RF64 file doesn't begin with a whole `ds64` chunk of at least 28 bytes.
+    Ds64Missing,
+    /// The chunk at byte `at`, which is no `data`, passes the end of the file, and `fmt ` or `data`
+    /// is still missing.
+    ChunkPastEnd { at: u64 },
+    /// There is no `fmt ` chunk.
+    NoFmt,
+    /// The `fmt ` chunk has only `len` bytes.
+    FmtShort { len: u32 },
+    /// The format tag is none of 1, 6, 7 and 17; 65534 is an extensible format whose SubFormat is
+    /// no tag.
+    Unsupported { tag: u16 },
+    /// The number of channels isn't from 1 to 8.
+    Channels { n: u16 },
+    /// The frames a second aren't from 1 to 768000.
+    Rate { n: u32 },
+    /// The bits of a sample and the bytes of a frame don't fit each other or the channels.
+    Width { bits: u16, align: u16 },
+    /// The bytes of an IMA block are no positive multiple of four bytes a channel.
+    ImaAlign { align: u16 },
+    /// A block's header has the step index `found` above 88.
+    StepIndex { block: u64, channel: u8, found: u8 },
+    /// There is no `data` chunk.
+    NoData,
+}

@@ -3,7 +3,7 @@ use Rattle.std.proofs.Common.{◌≡◌, ℕ, ◌+◌, ◌<◌, List, [], ◌∷
 use Rattle.std.proofs.Math.Seq.{take-suc-set}
 use Rattle.std.proofs.lemmas.List.Elements.{All-append}
 use Rattle.std.proofs.lemmas.List.FromFn.{map-range_with_len_more}
-use Rattle.wave_write.specs.Samples.{Is24}
+use Rattle.mix_fixed.specs.Sound.{Is24}
 use Rattle.mix_model.specs.SingleSound.{file_sample, file_samples}
 
 front : (out : List ℤ) (i : ℕ) (x : ℤ) → i < length out → take (i + 1) (set out i x) ≡ take i out ++ x ∷ []

@@ -1,5 +1,5 @@
 ghost use Rattle.std.specs.Prelude.{◌≡◌, ◌+◌, ◌^◌, ◌<◌, ◌≤◌, length, All};
-ghost use Rattle.wave_write.specs.Samples.{Is24};
+ghost use Rattle.mix_fixed.specs.Sound.{Is24};
 ghost use Rattle.mix_model.specs.SingleSound.{file_sample as sample_of, file_samples as samples_of};
 
 use byteorder::{ByteOrder, LittleEndian};

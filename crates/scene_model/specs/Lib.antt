@@ -1,5 +1,13 @@
 pub mod Buses
+pub mod IsPlan
 pub mod IsScene
 pub mod Limits
+pub mod Marks
 pub mod Names
+pub mod Opening
+pub mod PlanData
+pub mod Plans
+pub mod Reach
 pub mod SceneData
+pub mod Times
+pub mod Wiring

@@ -53,6 +53,14 @@ most_name_bytes = 64
 abbrev pub most_file_bytes : ℕ
 most_file_bytes = 255
 
+-- the most seeks of a node: with a place, their number fits a word of 64 bits
+abbrev pub most_seeks : ℕ
+most_seeks = 131071
+
+-- 16.0, in 1/65536
+abbrev pub most_gain : ℕ
+most_gain = 1048576
+
 -- 1.0, in 1/65536
 abbrev pub unit_gain : ℕ
 unit_gain = 65536

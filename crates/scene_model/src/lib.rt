@@ -6,25 +6,46 @@
 //! resource that is there, and that each row names a node that is there. So a reader of scenes
 //! tests nothing again. Who writes the literal `Scene { .. }` owes these facts.
 //!
+//! A [`Plan`] is how the scene is wired at some moment: it begins as [`Plan::opening`] says, and
+//! [`apply`] makes an edit in it or refuses it. No node of a plan is ever reached from itself along
+//! attached buses, so that a mix of it is well defined.
+//!
 //! Nodes are numbered from 0 in the order of the script, and the endpoint has the next number.
 //! Output buses are numbered from 0, node by node. Times are counted in frames of the scene's rate,
 //! and gains in 1/65536. This form of scenes and its limits are this project's own.
 #![tactic(auto)]
 
+mod bus;
 mod bus_row;
+mod changes;
+mod conditions;
 mod edit;
+mod laws;
 mod limits;
 mod name;
 mod node;
+mod node_state;
+mod outputs;
+mod plan;
+mod reach;
+mod refusals;
 mod reply;
 mod resource;
 mod scene;
 
+pub use bus::Bus;
 pub use bus_row::BusRow;
 pub use edit::{Edit, EditRow};
-pub use limits::{MAX_FILE_BYTES, MAX_LENGTH, MAX_NAME_BYTES, MAX_RATE, UNIT_GAIN};
+pub use laws::{
+    a_plan_takes_the_edits_of_a_scene, edits_keep_kinds_and_outputs, no_plan_has_a_cycle,
+};
+pub use limits::{
+    MAX_FILE_BYTES, MAX_GAIN, MAX_LENGTH, MAX_NAME_BYTES, MAX_PLACE, MAX_RATE, MAX_SEEKS, UNIT_GAIN,
+};
 pub use name::{is_file, is_name};
 pub use node::{Node, NodeKind};
+pub use node_state::NodeState;
+pub use plan::{Plan, apply};
 pub use reply::Reply;
 pub use resource::Resource;
 pub use scene::Scene;

@@ -1,3 +1,6 @@
+ghost use Rattle.std.specs.Prelude.{◌≡◌};
+ghost use Rattle.scene_model.specs.Plans as spec;
+
 /// What came of an edit. On each reply but `Done` nothing changed.
 #[derive(Debug, Clone, Copy, PartialEq, Eq)]
 pub enum Reply {
@@ -17,4 +20,13 @@ pub enum Reply {
     GainTooLarge,
     /// The node isn't a sound.
     NotSound,
+}
+
+impl Reply {
+    /// Whether the edit was made.
+    pub fn is_done(&self) -> bool
+        ensures { result ≡ spec.is_done self.now }
+    {
+        matches!(self, Reply::Done)
+    }
 }

@@ -5,11 +5,6 @@ use Rattle.std.specs.Int.{int_div_euclid, cast_unsigned, w32}
 use Rattle.std.specs.List.{flat_map}
 use Rattle.byteorder.specs.Endian.{little_bytes}
 
--- x is a number of 24 bits
-pub record Is24 (x : ℤ) : Type 0 where
-  pub least : negsuc 8388607 ≤ℤ x
-  pub greatest : x ≤ℤ pos 8388607
-
 -- the lowest n bytes of x in two's complement, the lowest first
 abbrev pub signed_bytes : ℕ → ℤ → List ℕ
 signed_bytes n x = little_bytes n (cast_unsigned w32 x)

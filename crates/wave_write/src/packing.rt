@@ -1,5 +1,6 @@
 ghost use Rattle.std.specs.Prelude.{◌≡◌, ◌≤◌, ◌⊎◌, ◌*◌, ◌++◌, length, All, OnOk, OnErr};
-ghost use Rattle.wave_write.specs.Samples.{Is24, packed_sample, packed};
+ghost use Rattle.mix_fixed.specs.Sound.{Is24};
+ghost use Rattle.wave_write.specs.Samples.{packed_sample, packed};
 
 use plain_data::OutOfMemory;
 use std::alloc::Global;

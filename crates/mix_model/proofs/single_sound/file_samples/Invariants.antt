@@ -1,5 +1,5 @@
 use Rattle.std.proofs.Common.{◌≡◌, take, All}
-use Rattle.wave_write.specs.Samples.{Is24}
+use Rattle.mix_fixed.specs.Sound.{Is24}
 use Rattle.mix_model.specs.SingleSound.{file_samples}
 use Rattle.mix_model.proofs.single_sound.file_samples.Given as goal
 

@@ -1,0 +1,4 @@
+pub mod ClipData
+pub mod Pages
+pub mod Pcm
+pub mod Frames

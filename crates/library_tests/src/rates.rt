@@ -1,0 +1,178 @@
+//! Gains, points, blends and frames that were worked out by hand.
+
+use mix_fixed::{Gain, sat24, scale};
+use rate_fit::{Fit, Interpolator, Point, Walker, blend, to_channels};
+use std::process::Abort;
+
+/// Rates in and out, the clip's frames, and the number of frames that they make.
+const LENGTHS: [(u32, u32, u64, u64); 12] = [
+    (44_100, 48_000, 88_200, 96_000),
+    (48_000, 44_100, 96_000, 88_200),
+    (48_000, 44_100, 95_999, 88_200),
+    (8_000, 16_000, 8_193, 16_386),
+    (1, 768_000, 1, 768_000),
+    (1, 768_000, 268_435_456, 206_158_430_208_000),
+    (768_000, 1, 768_000, 1),
+    (768_000, 1, 768_001, 2),
+    (768_000, 1, 268_435_456, 350),
+    (768_000, 1, 1, 1),
+    (44_100, 48_000, 0, 0),
+    (8_000, 8_000, 1, 1),
+];
+
+/// Rates in and out, the clip's frames, a frame's number, and its place.
+const POINTS: [(u32, u32, u64, u64, u64, u32); 14] = [
+    (44_100, 48_000, 88_200, 0, 0, 0),
+    (44_100, 48_000, 88_200, 1, 0, 44_100),
+    (44_100, 48_000, 88_200, 2, 1, 40_200),
+    (44_100, 48_000, 88_200, 160, 147, 0),
+    (44_100, 48_000, 88_200, 24_000, 22_050, 0),
+    (44_100, 48_000, 88_200, 95_999, 88_199, 3_900),
+    (48_000, 44_100, 96_000, 1, 1, 3_900),
+    (48_000, 44_100, 96_000, 147, 160, 0),
+    (8_000, 16_000, 8_193, 16_383, 8_191, 8_000),
+    (
+        1,
+        768_000,
+        268_435_456,
+        206_158_430_207_999,
+        268_435_455,
+        767_999,
+    ),
+    (768_000, 1, 268_435_456, 349, 268_032_000, 0),
+    (768_000, 1, 1, 0, 0, 0),
+    (8_000, 8_000, 1, 0, 0, 0),
+    (768_000, 768_000, 268_435_456, 268_435_455, 268_435_455, 0),
+];
+
+/// Rates in and out, the clip's frames, and the frame at which a walk begins.
+const WALKS: [(u32, u32, u64, u64); 9] = [
+    (44_100, 48_000, 300, 0),
+    (48_000, 44_100, 300, 7),
+    (11_025, 7, 40_000, 3),
+    (7, 11_025, 1, 0),
+    (1, 768_000, 268_435_456, 206_158_430_207_000),
+    (768_000, 1, 268_435_456, 0),
+    (767_999, 768_000, 500, 499),
+    (8_000, 8_000, 1, 1),
+    (44_100, 48_000, 0, 0),
+];
+
+/// Two samples, the weight of the second, the rate, and the sample between the two.
+const BLENDS: [(i32, i32, u32, u32, i32); 9] = [
+    (1_000, 2_001, 8_000, 16_000, 1_500),
+    (-1_000, -2_001, 8_000, 16_000, -1_501),
+    (0, 5_120, 44_100, 48_000, 4_704),
+    (0, -5_120, 44_100, 48_000, -4_704),
+    (0, -1, 1, 768_000, -1),
+    (3, 7, 0, 1, 3),
+    (8_388_607, 8_388_607, 767_999, 768_000, 8_388_607),
+    (-8_388_608, -8_388_608, 767_999, 768_000, -8_388_608),
+    (8_388_607, -8_388_608, 1, 2, -1),
+];
+
+fn fit(rt: &impl Abort, rin: u32, rout: u32, frames: u64) -> Fit {
+    assert!(rt; 1 <= rin);
+    assert!(rt; rin <= 768_000);
+    assert!(rt; 1 <= rout);
+    assert!(rt; rout <= 768_000);
+    assert!(rt; frames <= 268_435_456);
+    Fit::new(rin, rout, frames)
+}
+
+fn point(rt: &impl Abort, fit: &Fit, n: u64) -> Point {
+    assert!(rt; n < fit.len());
+    fit.at(n)
+}
+
+/// The sample between `a` and `b`, by division and by the reciprocal.
+fn between(rt: &impl Abort, a: i32, b: i32, weight: u32, rout: u32) -> (i32, i32) {
+    assert!(rt; -8_388_608 <= a);
+    assert!(rt; a <= 8_388_607);
+    assert!(rt; -8_388_608 <= b);
+    assert!(rt; b <= 8_388_607);
+    assert!(rt; weight < rout);
+    assert!(rt; rout <= 768_000);
+    let interpolator = Interpolator::new(rout);
+    (blend(a, b, weight, rout), interpolator.blend(a, b, weight))
+}
+
+fn scaled(rt: &impl Abort, x: i32, gain: u32) -> i32 {
+    assert!(rt; -8_388_608 <= x);
+    assert!(rt; x <= 8_388_607);
+    let gain = Gain::new(gain).expect(rt, "a gain");
+    scale(x, gain)
+}
+
+/// Walks from frame `from` to the end, and on.
+fn walk(rt: &impl Abort, fit: &Fit, from: u64) {
+    let len = fit.len();
+    assert!(rt; from <= len);
+    let mut walker = Walker::new(fit, from);
+    for n in from..len {
+        assert_eq!(rt; walker.next(), Some(point(rt, fit, n)), "frame {n}");
+    }
+    assert_eq!(rt; walker.next(), None);
+    assert_eq!(rt; walker.next(), None);
+}
+
+#[test]
+fn rates_have_the_lengths_points_and_blends_that_were_worked_out(rt: HostRuntime) {
+    for (rin, rout, frames, len) in LENGTHS {
+        assert_eq!(rt; fit(&rt, rin, rout, frames).len(), len, "{rin} to {rout}");
+    }
+    for (rin, rout, frames, n, first, weight) in POINTS {
+        let found = point(&rt, &fit(&rt, rin, rout, frames), n);
+        assert_eq!(rt;
+            found,
+            Point { first, weight },
+            "{rin} to {rout}: frame {n}"
+        );
+    }
+    for (rin, rout, frames, from) in WALKS {
+        walk(&rt, &fit(&rt, rin, rout, frames), from);
+    }
+    for (a, b, weight, rout, want) in BLENDS {
+        assert_eq!(rt;
+            between(&rt, a, b, weight, rout),
+            (want, want),
+            "{a} {b} {weight} {rout}"
+        );
+    }
+}
+
+#[test]
+fn gains_and_frames_round_down_and_keep_their_limits(rt: HostRuntime) {
+    assert_eq!(rt;
+        Gain::new(1_048_576).map(|gain| gain.get()),
+        Some(1_048_576)
+    );
+    assert_eq!(rt; Gain::new(1_048_577), None);
+    for (x, gain, want) in [
+        (8_388_607, 1_048_576, 134_217_712),
+        (-8_388_608, 1_048_576, -134_217_728),
+        (-1, 65_536, -1),
+        (-1, 1, -1),
+        (1, 65_535, 0),
+        (5, 0, 0),
+    ] {
+        assert_eq!(rt; scaled(&rt, x, gain), want, "{x} {gain}");
+    }
+    for (x, want) in [(8_388_608, 8_388_607), (i64::MIN, -8_388_608), (-7, -7)] {
+        assert_eq!(rt; sat24(x), want, "{x}");
+    }
+    let mut two = [0; 2];
+    let mut one = [0; 1];
+    to_channels(&[1, -2, 5], &mut two);
+    assert_eq!(rt; two, [1, -2]);
+    to_channels(&[1, -2, 5], &mut one);
+    assert_eq!(rt; one, [1]);
+    to_channels(&[-1, 0], &mut one);
+    assert_eq!(rt; one, [-1]);
+    to_channels(&[9], &mut two);
+    assert_eq!(rt; two, [9, 9]);
+    to_channels(&[3, 4], &mut two);
+    assert_eq!(rt; two, [3, 4]);
+    to_channels(&[8_388_607; 8], &mut one);
+    assert_eq!(rt; one, [8_388_607]);
+}

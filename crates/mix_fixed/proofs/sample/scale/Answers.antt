@@ -1,0 +1,10 @@
+-- The range of a scaled sample.
+use Rattle.std.proofs.Common.{arith}
+use Rattle.std.proofs.lemmas.Grind.{common_steps}
+use Rattle.mix_fixed.proofs.Rounding.{scale_range}
+use Rattle.mix_fixed.proofs.sample.scale.Goals as goal
+
+pub returns-clause-range : goal.returns-clause-range
+returns-clause-range c =
+    scale_range c.args.x _ c.args.g (grind (arith, common_steps)) c.requires
+    (omega (arith, c.get.ensures.limit, c.get.ensures.value))

@@ -1,0 +1,7 @@
+pub mod Places
+pub mod Walks
+pub mod Sums
+pub mod Means
+pub mod Blends
+pub mod Reciprocals
+pub mod Lifts

@@ -1,0 +1,23 @@
+//! The conversion of a clip's rate and channels.
+//!
+//! A [`Fit`] says how many frames a clip has at another rate, and between which two frames of the
+//! clip each of them lies: a [`Point`]. A [`Walker`] gives the same points one after the other and
+//! divides nowhere. [`blend`] is the linear interpolation at a point, rounded down, and an
+//! [`Interpolator`] the same at one rate without a division. [`to_channels`] brings a frame to one
+//! or two channels.
+#![tactic(auto)]
+
+mod channels;
+mod fit;
+mod interpolation;
+mod interpolator;
+mod point;
+mod rounding;
+mod walker;
+
+pub use channels::to_channels;
+pub use fit::Fit;
+pub use interpolation::blend;
+pub use interpolator::Interpolator;
+pub use point::Point;
+pub use walker::Walker;

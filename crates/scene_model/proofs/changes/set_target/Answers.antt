@@ -1,0 +1,20 @@
+use Rattle.std.proofs.Common.{sym, ◌∙◌, ap, get_or, set}
+use Rattle.scene_model.specs.Wiring.{bus_with_target}
+use Rattle.scene_model.proofs.Steps.{no_bus, over_written, bus_with_target_true, bus_with_target_false}
+use Rattle.scene_model.proofs.changes.set_target.Goals as goal
+use Rattle.scene_model.proofs.changes.set_target.Goals.{then-is_output, else-is_output}
+
+pub loop-bus-preserved : goal.loop-bus-preserved
+loop-bus-preserved c =
+    let change = bus_with_target c.args.node c.args.out c.args.to in
+    let buses = c.loop-bus.buses in
+    let i = c.loop-bus.bus-index in
+    let bus = get_or buses i no_bus in
+    elim c.if-is_output.branch [
+      | then-is_output w ↦
+          let is_it = sym c.is_output.ensures ∙ w.if-is_output.true in
+          w.buses-is ∙ ap (set buses i) (bus_with_target_true c.args.node c.args.out c.args.to bus is_it) ∙ over_written change c.args.buses.now buses i c.loop-bus-test.true c.loop-bus.auto.buses c.loop-bus.invariant
+      | else-is_output w ↦
+          let is_not = sym c.is_output.ensures ∙ w.if-is_output.false in
+          w.buses-is ∙ ap (set buses i) (bus_with_target_false c.args.node c.args.out c.args.to bus is_not) ∙ over_written change c.args.buses.now buses i c.loop-bus-test.true c.loop-bus.auto.buses c.loop-bus.invariant
+    ]

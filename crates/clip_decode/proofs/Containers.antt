@@ -3,7 +3,7 @@ use Rattle.std.proofs.Common.{◌≡◌, ℕ, ◌+◌, ◌*◌, ◌-◌, ◌/◌
 use Rattle.std.proofs.Math.Nat.{mul-div_cancel_left}
 use Rattle.wave_read.specs.Laws.{IsPcmLayout}
 use Rattle.wave_read.specs.declared.wave.Wave.{Wave}
-use Rattle.clip_decode.specs.Pcm.{container_size, container_place, container_of}
+use Rattle.clip_decode.specs.Containers.{container_size, container_place, container_of}
 
 -- a container has the bytes of the width
 pub size_by_width : (w : Wave) → 1 ≤ w.channels → IsPcmLayout w.channels w.width w.align → w.width / 8 ≡ container_size w

@@ -1,2 +1,9 @@
 pub mod Containers
+pub mod ContainerRuns
+pub mod FrameContainers
 pub mod FrameLists
+pub mod ImaBlocks
+pub mod ImaParts
+pub mod PageLists
+pub mod Limits
+pub mod PageJoins

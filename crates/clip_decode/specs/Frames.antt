@@ -1,16 +1,10 @@
--- The frames of a file, as numbers of 24 bits.
---
--- Each kind of sound has a definition of its own of a sample by the numbers of its frame and its channel, in a module
--- named for it, and a case in `kind_frames`. A-law, mu-law and IMA ADPCM are not decoded yet and have no list: with their
--- own definition they change their case here and nothing else.
-use Rattle.std.specs.Prelude.{◌≡◌, ℕ, ◌<◌, ℤ, pos, List, [], length, map, All, slice_index_or, Option, Some, None, Result, Ok, Err}
-use Rattle.std.specs.List.{range_with_len}
+-- The frames of a file, as lists of one number of 24 bits a channel.
+use Rattle.std.specs.Prelude.{◌≡◌, ℕ, ◌<◌, ℤ, pos, List, [], length, map, All, slice_index_or, Result, Ok, Err}
+use Rattle.std.specs.List.{range_with_len, flat_map}
 use Rattle.wave_read.specs.Wave.{wave}
-use Rattle.wave_read.specs.declared.kind.Kind.{Kind}
-use Rattle.wave_read.specs.declared.kind.Kind.TheVariants.{Pcm, Alaw, Ulaw, Ima}
 use Rattle.wave_read.specs.declared.wave.Wave.{Wave}
 use Rattle.wave_read.specs.declared.wave_fault.WaveFault.{WaveFault}
-use Rattle.clip_decode.specs.Pcm.{pcm_sample}
+use Rattle.clip_decode.specs.Samples.{sample_of}
 
 -- a frame is the list of its channels' samples
 abbrev pub frame_by : (ℕ → ℤ) → ℕ → List ℤ
@@ -19,20 +13,17 @@ frame_by sample channels = map sample (range_with_len 0 channels)
 abbrev pub frames_by : (ℕ → ℕ → ℤ) → ℕ → ℕ → List (List ℤ)
 frames_by sample frames channels = map (λ frame. frame_by (sample frame) channels) (range_with_len 0 frames)
 
--- the frames of a sound, by its kind
-abbrev pub kind_frames : Kind → List ℕ → Wave → Option (List (List ℤ))
-kind_frames Pcm bytes w = Some (frames_by (pcm_sample bytes w) w.frames w.channels)
-kind_frames Alaw bytes w = None
-kind_frames Ulaw bytes w = None
-kind_frames Ima bytes w = None
-
-abbrev pub frames_said : List ℕ → Result Wave WaveFault → Option (List (List ℤ))
-frames_said bytes (Err fault) = None
-frames_said bytes (Ok w) = kind_frames w.kind bytes w
+abbrev pub frames_said : List ℕ → Result Wave WaveFault → List (List ℤ)
+frames_said bytes (Err fault) = []
+frames_said bytes (Ok w) = frames_by (sample_of bytes w) w.frames w.channels
 
 -- the frames of a file. One that is refused has none
-unfoldable pub frames : List ℕ → Option (List (List ℤ))
+unfoldable pub frames : List ℕ → List (List ℤ)
 frames bytes = frames_said bytes (wave bytes)
+
+-- the samples of frames, one frame after the other
+unfoldable pub interleaved : List (List ℤ) → List ℤ
+interleaved frames = flat_map (λ frame. frame) frames
 
 -- these are so many frames of so many channels, with each sample by the numbers of its frame and its channel
 pub record HasSamples (frames channels : ℕ) (sample : ℕ → ℕ → ℤ) (list : List (List ℤ)) : Type 0 where

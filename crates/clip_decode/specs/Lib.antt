@@ -1,4 +1,11 @@
 pub mod ClipData
-pub mod Pages
+pub mod Containers
+pub mod Widened
 pub mod Pcm
+pub mod G711
+pub mod Ima
+pub mod Samples
 pub mod Frames
+pub mod Pages
+pub mod Cells
+pub mod Cursors

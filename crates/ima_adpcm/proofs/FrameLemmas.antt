@@ -36,6 +36,16 @@ written-none ch c at value old = record {
   other_channels = λ f d hd ne. refl;
 }
 
+-- the same samples, told otherwise
+pub written-as : (ch c at n : ℕ) (value other : ℕ → ℤ) (old new : List ℤ)
+    → ChannelWritten ch c at n value old new → ((i : ℕ) → value i ≡ other i) → ChannelWritten ch c at n other old new
+written-as ch c at n value other old new w same = record {
+  here = λ i lt. w.here i lt ∙ same i;
+  before = w.before;
+  beyond = w.beyond;
+  other_channels = w.other_channels;
+}
+
 -- one more sample of the channel
 pub written-more : (ch c at n : ℕ) (value : ℕ → ℤ) (v : ℤ) (old mid new : List ℤ) → c < ch
     → ChannelWritten ch c at n value old mid → Put ch (at + n) c v mid new → v ≡ value n

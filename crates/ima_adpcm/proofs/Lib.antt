@@ -1,6 +1,6 @@
 mod WordLemmas
 mod FaultLemmas
-mod LayoutLemmas
+pub mod LayoutLemmas
 mod FrameLemmas
 pub mod StateLemmas
 mod RunLemmas

@@ -1,7 +1,7 @@
 -- Frames of some channels, interleaved: the sample of channel c in frame f stands at f * ch + c.
 use Rattle.std.specs.Prelude.{ℕ, ◌+◌, ◌*◌, ◌<◌, ◌≤◌, ◌≡◌, ◌≢◌, List, ℤ, pos, slice_index_or}
 use Rattle.ima_adpcm.specs.Decoder.{State}
-use Rattle.ima_adpcm.specs.Blocks.{state_after, samples_after}
+use Rattle.ima_adpcm.specs.Blocks.{state_after, samples_after, block_state}
 
 abbrev pub sample_at : ℕ → List ℤ → ℕ → ℕ → ℤ
 sample_at ch samples f c = slice_index_or samples (f * ch + c) (pos 0)
@@ -23,3 +23,11 @@ pub record ChannelWritten (ch c at n : ℕ) (value : ℕ → ℤ) (old new : Lis
 pub record ChannelRun (bytes : List ℕ) (ch c from n at : ℕ) (old_state new_state : State) (old new : List ℤ) : Type 0 where
   pub state : new_state ≡ state_after bytes ch c from old_state n
   pub written : ChannelWritten ch c at n (samples_after bytes ch c from old_state) old new
+
+-- the first n frames have the samples `value f c`
+pub record FramesAre (ch n : ℕ) (value : ℕ → ℕ → ℤ) (samples : List ℤ) : Type 0 where
+  pub each : (f c : ℕ) → f < n → c < ch → sample_at ch samples f c ≡ value f c
+
+-- the decoders of a block's channels stand at a frame
+pub record DecodersAt (bytes : List ℕ) (ch frame : ℕ) (decoders : List State) : Type 0 where
+  pub each : (c : ℕ) (other : State) → c < ch → slice_index_or decoders c other ≡ block_state bytes ch c frame

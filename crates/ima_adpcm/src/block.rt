@@ -57,7 +57,7 @@ fn first_fault(block: &[u8], ch: u8) -> Option<ImaFault>
 }
 
 /// Writes one sample: that of channel `c` in frame `f`.
-fn put(out: &mut [i16], ch: u8, f: usize, c: u8, sample: i16)
+pub fn put(out: &mut [i16], ch: u8, f: usize, c: u8, sample: i16)
     requires channel { c < ch }
     requires room { f * ch + c < length out.old }
     ensures { Put ch f c sample out.old out.new }

@@ -1,9 +1,9 @@
 //! What a scene sounds like, as definitions, and the plainest bodies that meet them.
 //!
-//! The definitions stand in `specs/`: the WAVE file of a list of frames, and the frames of a scene
-//! of one sound.
+//! The definitions stand in `specs/`: the WAVE file of a list of frames, and the summary of a
+//! rendering.
 #![tactic(auto)]
 
-mod single_sound;
+mod summary;
 
-pub use single_sound::{file_sample, file_samples};
+pub use summary::Summary;

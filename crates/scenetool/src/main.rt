@@ -11,6 +11,7 @@ scenetool renders scenes of sound to WAVE files.
 
   scenetool mix SCENE OUT    reads the script SCENE and the sound files that it names,
                              and writes the WAVE file OUT; the paths are 1 to 255 bytes
+  scenetool info FILE        tells what the WAVE file FILE says of its sound
   scenetool --help           prints this text
   scenetool --version        prints the version
 
@@ -21,10 +22,12 @@ It ends with one of these statuses:
    2  the words are none of the forms above
    3  a file could not be read or written
    4  SCENE or a sound file is not there
-   8  this text could not be printed
+   5  SCENE or a sound file is too long
+   7  a sound file is refused
+   8  the text could not be printed; the files are written
   10  the scene, or its sound file, is of a form that is not built yet
 
-After 2, 4 and 10 no file has changed. README.md and docs/ in the repository say more.
+One line says more on standard output. After 2, 4, 5, 7 and 10 no file has changed. README.md and docs/ in the repository say more.
 ";
 
 const VERSION: &str = "scenetool 0.1.0\n";

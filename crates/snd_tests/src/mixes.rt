@@ -1,29 +1,35 @@
 //! `mix` of a scene of one sound, over a store in memory.
 ghost use Rattle.std.specs.Prelude.{◌≡◌, None, IfOk};
 ghost use Rattle.snd_io.specs.SureFiles.{sure_writing};
-ghost use Rattle.snd_io.specs.MemFiles.{mem_writing};
 
-use crate::programs::{is_bytes, run, script};
-use plain_data::{OutOfMemory, Text};
-use snd_io::{MemDepot, Snag, SureDepot};
-use snd_tools::{Part, Status};
+use crate::programs::{ends, is_bytes, run, script, words_of};
+use plain_data::OutOfMemory;
+use snd_io::{MemDepot, MemSink, Snag, SureDepot};
+use snd_tools::{Status, run_tool};
 use std::alloc::{AllocError, Global};
 use std::test::Fail;
 use wave_write::header;
 
 /// The samples 0, 1, -1 and 32767 in a mono file of 16 bits at 8000 Hz.
-const TONE: &[u8] =
+pub const TONE: &[u8] =
     b"RIFF\x2c\0\0\0WAVEfmt \x10\0\0\0\x01\0\x01\0\x40\x1f\0\0\x80\x3e\0\0\x02\0\x10\0data\x08\0\0\0\0\0\x01\0\xff\xff\xff\x7f";
 
-/// The words of the command.
+/// The frames (1, -1) and (-8388608, 8388607) in a stereo file of 24 bits at 8000 Hz, of the
+/// extensible form.
+const WIDE: &[u8] =
+    b"RIFF\x48\0\0\0WAVEfmt \x28\0\0\0\xfe\xff\x02\0\x40\x1f\0\0\x80\xbb\0\0\x06\0\x18\0\x16\0\x18\0\x03\0\0\0\x01\0\0\0\0\0\x10\0\x80\0\0\xaa\0\x38\x9b\x71data\x0c\0\0\0\x01\0\0\xff\xff\xff\0\0\x80\xff\xff\x7f";
+
+/// The words of the command, and what it prints for the four samples.
 const MIX: &[&str] = &["mix", "scene.toml", "out.wav"];
 
-/// A store with a script of so many frames and a sound file.
+const TONE_LINE: &str = "frames 4 rate 8000 channels 1 width 16 bytes 52 peak 8388352 sum 893\n";
+
+/// A store with a script of mono and 16 bits of so many frames, and a sound file.
 fn depot_with(alloc: Global, length: u32, sound: &[u8]) -> Result<SureDepot, OutOfMemory>
     ensures { IfOk result (λ depot. sure_writing depot ≡ None) }
 {
     let mut depot = SureDepot::new(alloc)?;
-    let text = script(alloc, 8000, length)?;
+    let text = script(alloc, 8000, 1, 16, length)?;
     depot.set(alloc, "scene.toml", text.as_str().as_bytes())?;
     depot.set(alloc, "tone.wav", sound)?;
     Ok(depot)
@@ -43,144 +49,152 @@ fn ramps(alloc: Global) -> Result<Vec<u8>, AllocError> {
 fn a_sound_is_copied_to_the_output(rt: HostRuntime) -> Result<(), Fail> {
     let alloc = rt.alloc();
     let mut depot = depot_with(alloc, 4, TONE)?;
-    assert_eq!(rt; run(alloc, &mut depot, MIX)?, (Status::Done, true));
+    assert!(rt; ends(alloc, &mut depot, MIX, 0, TONE_LINE)?);
     assert!(rt; is_bytes(depot.file("out.wav"), TONE));
 
     let ramps = ramps(alloc)?;
     let mut depot = depot_with(alloc, 8000, &ramps)?;
-    assert_eq!(rt; run(alloc, &mut depot, MIX)?, (Status::Done, true));
+    assert_eq!(rt; run(alloc, &mut depot, MIX)?.0, Status::Done);
     assert_eq!(rt; ramps.len(), 16_044);
     assert!(rt; is_bytes(depot.file("out.wav"), ramps.as_slice()));
 
-    let mut depot = depot_with(alloc, 0, TONE)?;
-    assert_eq!(rt; run(alloc, &mut depot, MIX)?, (Status::Done, true));
-    assert!(rt; is_bytes(depot.file("out.wav"), header(1, 8000, 16, 0).as_slice()));
-
     let mut depot = depot_with(alloc, 6, TONE)?;
-    assert_eq!(rt; run(alloc, &mut depot, MIX)?, (Status::Done, true));
+    assert_eq!(rt; run(alloc, &mut depot, MIX)?.0, Status::Done);
     let longer =
         b"RIFF\x30\0\0\0WAVEfmt \x10\0\0\0\x01\0\x01\0\x40\x1f\0\0\x80\x3e\0\0\x02\0\x10\0data\x0c\0\0\0\0\0\x01\0\xff\xff\xff\x7f\0\0\0\0";
     assert!(rt; is_bytes(depot.file("out.wav"), longer.as_slice()));
     Ok(())
 }
 
-/// Words, and the place of the first that doesn't fit.
-const USAGES: &[(&[&str], u32)] = &[
-    (&[], 0),
-    (&["play", "a", "b"], 0),
-    (&["mix"], 1),
-    (&["mix", "a"], 2),
-    (&["mix", ""], 2),
-    (&["mix", "a", "b", "c"], 3),
-    (&["mix", "", "", "c"], 3),
-    (&["mix", "", ""], 1),
-    (&["mix", "a", ""], 2),
+#[test]
+fn wide_samples_of_two_channels_are_kept(rt: HostRuntime) -> Result<(), Fail> {
+    let alloc = rt.alloc();
+    let mut depot = SureDepot::new(alloc)?;
+    let text = script(alloc, 8000, 2, 24, 2)?;
+    depot.set(alloc, "scene.toml", text.as_str().as_bytes())?;
+    depot.set(alloc, "tone.wav", WIDE)?;
+    let line = "frames 2 rate 8000 channels 2 width 24 bytes 56 peak 8388608 sum 1531\n";
+    assert!(rt; ends(alloc, &mut depot, MIX, 0, line)?);
+    let mut want = Vec::from_slice(alloc, &header(2, 8000, 24, 2))?;
+    want.extend_from_slice(b"\x01\0\0\xff\xff\xff\0\0\x80\xff\xff\x7f")?;
+    assert!(rt; is_bytes(depot.file("out.wav"), want.as_slice()));
+    Ok(())
+}
+
+/// Words, and the place of the first that doesn't fit, as the text tells it.
+const USAGES: &[(&[&str], &str)] = &[
+    (&[], "usage: word 0\n"),
+    (&["play", "a", "b"], "usage: word 0\n"),
+    (&["mix"], "usage: word 1\n"),
+    (&["mix", "a"], "usage: word 2\n"),
+    (&["mix", ""], "usage: word 2\n"),
+    (&["mix", "a", "b", "c"], "usage: word 3\n"),
+    (&["mix", "", "", "c"], "usage: word 3\n"),
+    (&["mix", "", ""], "usage: word 1\n"),
+    (&["mix", "a", ""], "usage: word 2\n"),
+    (&["info"], "usage: word 1\n"),
+    (&["info", ""], "usage: word 1\n"),
+    (&["info", "", "b"], "usage: word 2\n"),
 ];
 
 #[test]
 fn what_is_refused_changes_no_file(rt: HostRuntime) -> Result<(), Fail> {
     let alloc = rt.alloc();
-    for (words, word) in USAGES {
-        let mut depot = depot_with(alloc, 4, TONE)?;
-        let status = Status::Usage { word: *word };
-        assert_eq!(rt; run(alloc, &mut depot, words)?, (status, true), "{words:?}");
+    for (words, text) in USAGES {
+        let mut depot = SureDepot::new(alloc)?;
+        assert!(rt; ends(alloc, &mut depot, words, 2, text)?, "{words:?}");
     }
-    let long = "p".repeat(alloc, 256)?;
     let mut depot = SureDepot::new(alloc)?;
+    let long = "p".repeat(alloc, 256)?;
     let words = ["mix", "scene.toml", long.as_str()];
-    assert_eq!(rt;
-        run(alloc, &mut depot, &words)?.0,
-        Status::Usage { word: 2 }
-    );
-
-    let name = Text::new(String::from_str(alloc, "scene.toml")?);
-    assert_eq!(rt; run(alloc, &mut depot, MIX)?.0, Status::Absent { name });
-    let text = script(alloc, 8000, 4)?;
+    assert!(rt; ends(alloc, &mut depot, &words, 2, "usage: word 2\n")?);
+    assert!(rt; ends(alloc, &mut depot, MIX, 4, "absent: scene.toml\n")?);
+    let text = script(alloc, 8000, 1, 16, 4)?;
     depot.set(alloc, "scene.toml", text.as_str().as_bytes())?;
-    let name = Text::new(String::from_str(alloc, "tone.wav")?);
-    assert_eq!(rt; run(alloc, &mut depot, MIX)?.0, Status::Absent { name });
+    assert!(rt; ends(alloc, &mut depot, MIX, 4, "absent: tone.wav\n")?);
+    depot.set(alloc, "tone.wav", &TONE[..20])?;
+    assert!(rt; ends(alloc, &mut depot, MIX, 7, "file: 0: ChunkPastEnd 12\n")?);
+    let mut bytes = Vec::from_slice(alloc, text.as_str().as_bytes())?;
+    bytes.resize(4_194_304, b' ')?;
+    depot.set(alloc, "scene.toml", &bytes)?;
+    assert!(rt; ends(alloc, &mut depot, MIX, 7, "file: 0: ChunkPastEnd 12\n")?);
+    bytes.push(b' ')?;
+    depot.set(alloc, "scene.toml", &bytes)?;
+    assert!(rt;
+        ends(
+            alloc,
+            &mut depot,
+            MIX,
+            5,
+            "too long: scene.toml limit 4194304\n"
+        )?
+    );
     assert!(rt; depot.file("out.wav").is_none());
     Ok(())
 }
 
-/// The status for a sound file, and whether OUT is there.
-fn status_of(alloc: Global, sound: &[u8]) -> Result<(Status, bool), OutOfMemory> {
-    let mut depot = depot_with(alloc, 4, sound)?;
-    let (status, _) = run(alloc, &mut depot, MIX)?;
-    Ok((status, depot.file("out.wav").is_some()))
-}
-
-#[test]
-fn a_sound_file_of_another_form_is_not_built(rt: HostRuntime) -> Result<(), Fail> {
-    let alloc = rt.alloc();
-    let part = Part::Resource;
-    let refused = (Status::Unbuilt { part }, false);
-    for at in 0..44 {
-        let mut sound = Vec::from_slice(alloc, TONE)?;
-        for (place, byte) in sound.iter_mut().enumerate() {
-            if place == at {
-                *byte = byte.wrapping_add(1);
-            }
-        }
-        // The RIFF size and the byte rate are not looked at.
-        let answer = status_of(alloc, &sound)?;
-        if (4..8).contains(&at) || (28..32).contains(&at) {
-            assert_eq!(rt; answer, (Status::Done, true), "byte {at}");
-        } else {
-            assert_eq!(rt; answer, refused, "byte {at}");
-        }
-    }
-    assert_eq!(rt; status_of(alloc, &TONE[..43])?, refused);
-    assert_eq!(rt; status_of(alloc, &TONE[..51])?, refused);
-    assert_eq!(rt; status_of(alloc, b"")?, refused);
-    assert_eq!(rt;
-        status_of(alloc, &header(1, 8000, 16, 0))?,
-        (Status::Done, true)
-    );
-    Ok(())
-}
-
-/// OUT after `mix` of 600 frames into a store that fails at this call, and the status.
-fn mix_failing(alloc: Global, snag: Snag) -> Result<(Status, Option<usize>), OutOfMemory> {
+/// What is left of OUT after `mix` of the four samples into a store that fails at this call.
+fn mix_failing(alloc: Global, call: u32) -> Result<(u8, Option<usize>), OutOfMemory> {
     let mut depot = MemDepot::new(alloc)?;
-    let text = script(alloc, 8000, 600)?;
+    let text = script(alloc, 8000, 1, 16, 4)?;
     depot.set(alloc, "scene.toml", text.as_str().as_bytes())?;
     depot.set(alloc, "tone.wav", TONE)?;
+    let snag = Snag {
+        appends_only: false,
+        call,
+        taken: 7,
+    };
     depot.fail(alloc, snag)?;
     let (status, _) = run(alloc, &mut depot, MIX)?;
-    Ok((status, depot.file("out.wav").map(|bytes| bytes.len())))
+    Ok((
+        status.code(),
+        depot.file("out.wav").map(|bytes| bytes.len()),
+    ))
 }
 
 #[test]
 fn a_failing_call_leaves_a_prefix(rt: HostRuntime) -> Result<(), Fail> {
-    // Two fetches, create, three appends and finish: what is left of the 1244 bytes.
-    let left = [None, None, None, Some(1), Some(45), Some(1069), Some(1244)];
+    // Two fetches, create, append and finish: what is left of the 52 bytes.
+    let left = [None, None, None, Some(7), Some(52)];
     for (call, want) in (1..).zip(left) {
-        let snag = Snag {
-            appends_only: false,
-            call,
-            taken: 1,
-        };
-        assert_eq!(rt;
-            mix_failing(rt.alloc(), snag)?,
-            (Status::DepotFault, want),
-            "{call}"
-        );
+        assert_eq!(rt; mix_failing(rt.alloc(), call)?, (3, want), "{call}");
     }
-    let none = Snag {
-        appends_only: false,
-        call: 8,
-        taken: 1,
-    };
-    assert_eq!(rt; mix_failing(rt.alloc(), none)?, (Status::Done, Some(1244)));
-    let second_append = Snag {
-        appends_only: true,
-        call: 2,
-        taken: 3,
-    };
-    assert_eq!(rt;
-        mix_failing(rt.alloc(), second_append)?,
-        (Status::DepotFault, Some(47))
-    );
+    assert_eq!(rt; mix_failing(rt.alloc(), 6)?, (0, Some(52)));
+    Ok(())
+}
+
+/// The status of a command whose first text fails after so many bytes, and the text.
+fn told_failing(
+    alloc: Global,
+    depot: &mut SureDepot,
+    words: &[&str],
+    taken: u32,
+) -> Result<(u8, Vec<u8>), OutOfMemory>
+    requires { sure_writing depot.old ≡ None }
+    ensures { sure_writing depot.new ≡ None }
+{
+    let owned = words_of(alloc, words)?;
+    let mut text = MemSink::new(alloc)?;
+    text.fail(alloc, 1, taken)?;
+    let status = run_tool(alloc, &owned, depot, &mut text);
+    Ok((status.code(), Vec::from_slice(alloc, text.bytes())?))
+}
+
+#[test]
+fn a_text_that_fails_is_told_by_the_status_of_what_is_done(rt: HostRuntime) -> Result<(), Fail> {
+    let alloc = rt.alloc();
+    for (taken, cut) in [(0, b"".as_slice()), (1, b"f".as_slice())] {
+        let mut depot = depot_with(alloc, 4, TONE)?;
+        let (code, text) = told_failing(alloc, &mut depot, MIX, taken)?;
+        assert_eq!(rt; code, 8);
+        assert_eq!(rt; text.as_slice(), cut);
+        assert!(rt; is_bytes(depot.file("out.wav"), TONE));
+    }
+    for (taken, cut) in [(0, b"".as_slice()), (1, b"u".as_slice())] {
+        let mut depot = SureDepot::new(alloc)?;
+        let (code, text) = told_failing(alloc, &mut depot, &["mix", "a"], taken)?;
+        assert_eq!(rt; code, 2);
+        assert_eq!(rt; text.as_slice(), cut);
+    }
     Ok(())
 }

@@ -7,12 +7,18 @@ use snd_tools::{Status, run_tool};
 use std::alloc::{AllocError, Global};
 
 /// A script of one sound, `player`, that plays `tone.wav`.
-pub fn script(alloc: Global, rate: u32, length: u32) -> Result<String, AllocError> {
+pub fn script(
+    alloc: Global,
+    rate: u32,
+    channels: u8,
+    width: u8,
+    length: u32,
+) -> Result<String, AllocError> {
     format!(in alloc;
         "version = 1
 rate = {rate}
-channels = 1
-width = 16
+channels = {channels}
+width = {width}
 length = {length}
 [[resource]]
 name = \"tone\"
@@ -28,22 +34,44 @@ to = \"endpoint\"
     )
 }
 
-/// The status of a command, and that no text was written.
-pub fn run<D: Depot>(
-    alloc: Global,
-    depot: &mut D,
-    words: &[&str],
-) -> Result<(Status, bool), OutOfMemory>
-    requires { D.writing depot.old ≡ None }
-    ensures { D.writing depot.new ≡ None }
-{
+/// The words of a command.
+pub fn words_of(alloc: Global, words: &[&str]) -> Result<Vec<String>, AllocError> {
     let mut owned = Vec::new(alloc);
     for word in words {
         owned.push(String::from_str(alloc, word)?)?;
     }
+    Ok(owned)
+}
+
+/// The status of a command, and the text that it printed.
+pub fn run<D: Depot>(
+    alloc: Global,
+    depot: &mut D,
+    words: &[&str],
+) -> Result<(Status, Vec<u8>), OutOfMemory>
+    requires { D.writing depot.old ≡ None }
+    ensures { D.writing depot.new ≡ None }
+{
+    let owned = words_of(alloc, words)?;
     let mut text = MemSink::new(alloc)?;
     let status = run_tool(alloc, &owned, depot, &mut text);
-    Ok((status, text.bytes().is_empty()))
+    let printed = Vec::from_slice(alloc, text.bytes())?;
+    Ok((status, printed))
+}
+
+/// Whether a command ends with this status and prints this text.
+pub fn ends<D: Depot>(
+    alloc: Global,
+    depot: &mut D,
+    words: &[&str],
+    code: u8,
+    text: &str,
+) -> Result<bool, OutOfMemory>
+    requires { D.writing depot.old ≡ None }
+    ensures { D.writing depot.new ≡ None }
+{
+    let (status, printed) = run(alloc, depot, words)?;
+    Ok(status.code() == code && printed.as_slice() == text.as_bytes())
 }
 
 /// Whether a file is there and has these bytes.

@@ -105,10 +105,10 @@ const REFUSED: &[(&str, &str)] = &[
     ("rate = 8000", "rate = 768001"),
     ("rate = 8000", "rate = -8000"),
     ("channels = 1", "channels = 0"),
-    ("channels = 1", "channels = 2"),
+    ("channels = 1", "channels = 3"),
     ("channels = 1", "channels = 257"),
     ("width = 16", "width = 15"),
-    ("width = 16", "width = 24"),
+    ("width = 16", "width = 32"),
     ("length = 600", "length = -1"),
     ("length = 600", "length = 16777217"),
     ("length = 600", "length = 9223372036854775807"),
@@ -196,11 +196,6 @@ fn a_script_of_another_form_is_not_built(rt: HostRuntime) -> Result<(), Fail> {
     let long_file = "f".repeat(alloc, 256)?;
     let text = SCRIPT.replacen(alloc, "tone.wav", long_file.as_str(), 1)?;
     assert_eq!(rt; status_of(rt.alloc(), text.as_bytes())?, REFUSAL);
-    let mut bytes = SCRIPT.as_bytes().to_vec(alloc)?;
-    bytes.resize(4_194_304, b' ')?;
-    assert!(rt; status_of(rt.alloc(), &bytes)? != REFUSAL, "4 MiB");
-    bytes.push(b' ')?;
-    assert_eq!(rt; status_of(rt.alloc(), &bytes)?, REFUSAL, "a byte more");
     let mut broken = SCRIPT.as_bytes().to_vec(alloc)?;
     broken.extend_from_slice(b"# \xff")?;
     assert_eq!(rt; status_of(rt.alloc(), &broken)?, REFUSAL, "not UTF-8");

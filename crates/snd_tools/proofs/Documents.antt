@@ -1,22 +1,21 @@
 -- What the TOML reader answers, as the document that a text is.
-use Rattle.std.proofs.Common.{◌≡◌, ℕ, List, Bool, true, false, Some, None, refl, if◌then◌else◌, ◌≤◌, ◌&&◌, nat_le, length, le-leb}
+use Rattle.std.proofs.Common.{◌≡◌, ℕ, List, Bool, true, false, Some, None, refl, if◌then◌else◌}
 use Rattle.std.specs.Str.{IsUtf8, is_utf8}
 use Rattle.std.proofs.lemmas.Str.{is_utf8-from_IsUtf8, IsUtf8-from_is_utf8}
 use Rattle.toml.specs.Data.{Members}
 use Rattle.toml.specs.Parse.{parse_document}
-use Rattle.snd_tools.specs.SingleScript.{document, most_script_bytes}
+use Rattle.snd_tools.specs.SingleScript.{document}
 
--- a text that isn't too long, of which the grammar makes a table
-pub document_read : (text : List ℕ) (table : Members) → length text ≤ most_script_bytes → IsUtf8 text → parse_document text ≡ Some table → document text ≡ Some table
+-- a text of which the grammar makes a table
+pub document_read : (text : List ℕ) (table : Members) → IsUtf8 text → parse_document text ≡ Some table → document text ≡ Some table
 unfolding document
-document_read text table short utf8 read = rw (le-leb _ _ short, is_utf8-from_IsUtf8 text utf8) read
+document_read text table utf8 read = rw (is_utf8-from_IsUtf8 text utf8) read
 
 -- a text that isn't UTF-8, or of which the grammar makes nothing
 pub document_refused : (text : List ℕ) → (IsUtf8 text → parse_document text ≡ None) → document text ≡ None
 unfolding document
-document_refused text refused = by_tests (nat_le (length text) most_script_bytes) (is_utf8 text) refl
+document_refused text refused = by_test (is_utf8 text) refl
   where
-    by_tests : (short utf8 : Bool) → is_utf8 text ≡ utf8 → (if short && utf8 then parse_document text else None) ≡ None
-    by_tests false utf8 is = refl
-    by_tests true true is = refused (IsUtf8-from_is_utf8 text is)
-    by_tests true false is = refl
+    by_test : (utf8 : Bool) → is_utf8 text ≡ utf8 → (if utf8 then parse_document text else None) ≡ None
+    by_test true is = refused (IsUtf8-from_is_utf8 text is)
+    by_test false is = refl

@@ -1,4 +1,6 @@
 pub mod Documents
+pub mod Lines
 pub mod Outcomes
-pub mod Pieces
 pub mod Rows
+pub mod Samples
+pub mod FileSets

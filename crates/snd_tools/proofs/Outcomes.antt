@@ -1,79 +1,146 @@
 -- From what the parts of a command gave to what its status says.
-use Rattle.std.proofs.Common.{◌≡◌, ◌<◌, ◌⊎◌, ℕ, true, false, List, [], ◌∷◌, length, Option, Some, None, Result, Ok, Err, IfSome, IsSomeAnd, refl, ◌∙◌, ap, subst, inl, inr, nat_le, arith}
-use Rattle.std.specs.FinMap.{get}
+use Rattle.std.proofs.Common.{◌≡◌, ◌⊎◌, ℕ, true, List, [], ◌∷◌, Option, Some, None, Result, Ok, Err, IfSome, String, Global, string_bytes, refl, ◌∙◌, ap, sym, subst, inl, inr}
 use Rattle.std.specs.Option.{option_map}
-use Rattle.scene_model.specs.SceneData.{SceneData}
-use Rattle.snd_tools.specs.SingleScript.{single_script, document}
-use Rattle.snd_io.specs.Answers.{IsPrefix}
+use Rattle.snd_io.specs.Answers.{IsPrefix, IsPrefix-all}
 use Rattle.snd_io.specs.Files.{Files, Told, put_file}
-use Rattle.snd_tools.specs.declared.status.Part.TheVariants.{Script, Resource}
-use Rattle.snd_tools.specs.declared.status.Status.{Status}
-use Rattle.snd_tools.specs.declared.status.Status.TheVariants.{Done, OutOfMemory, Usage, DepotFault, Absent, Unbuilt}
-use Rattle.snd_tools.specs.Meets.{IsLeft, Meets}
-use Rattle.snd_tools.specs.Outcome.{Output, Outcome, ◌>>=◌, mix_outcome, mix_sound, mix_output}
-use Rattle.snd_tools.specs.PlainWave.{is_plain_wave}
-use Rattle.snd_tools.specs.Reading.{Ends, scene_read, sound_read, sound_path}
-use Rattle.snd_tools.specs.Statuses.{is_depot_fault}
-use Rattle.snd_tools.specs.Words.{MixWords}
+use Rattle.snd_status.specs.declared.status.Status.{Status}
+use Rattle.snd_status.specs.declared.status.Status.TheVariants.{Done, OutOfMemory, Usage, DepotFault, Absent, TooLong, File, TextFault, Unbuilt}
+use Rattle.snd_tools.specs.Meets.{put_all, IsWrittenInPart, IsLeft, IsWritten, Stops, Works, IsTold, MayTell, Meets}
+use Rattle.snd_tools.specs.Outcome.{Output, Outcome, Report, status_line}
+use Rattle.snd_tools.specs.Reading.{◌>>=◌, Ends, GivesBy, is_depot_fault}
+use Rattle.snd_tools.specs.Telling.{TellsDone, TellsOr, Tells}
 
 pub IfSome-at : {A : Type 0} (P : A → Type 0) (o : Option A) (x : A) → o ≡ Some x → IfSome o P → P x
 IfSome-at P None x is h = cc
 IfSome-at P (Some y) x is h = let same : y ≡ x = cc in subst P same h
 
--- ---- files that are too long
+pub IfSome-map : {A : Type 0} {P Q : A → Type 0} (o : Option A) → ((x : A) → P x → Q x) → IfSome o P → IfSome o Q
+IfSome-map None f h = tt
+IfSome-map (Some x) f h = f x h
 
-above : (m n : ℕ) → m < n → nat_le n m ≡ false
-above m n less = grind arith
+-- ---- parts of the work, one after the other
 
-pub long-script : (name : List ℕ) (file : Option (List ℕ)) → IsSomeAnd file (λ text. 4194304 < length text) → scene_read name file ≡ Err (Unbuilt Script)
-unfolding single_script document
-long-script name None long = absurd long
-long-script name (Some text) long = rw (above 4194304 (length text) long) refl
+-- a part that ended ends what follows it
+pub ends-then : {A B : Type 0} (status : Status) (said : Result A Status) (next : A → Result B Status) → Ends status said → Ends status (said >>= next)
+ends-then Done said next ends = absurd ends
+ends-then OutOfMemory said next ends = tt
+ends-then (Usage word) said next ends = ap (λ r. r >>= next) ends
+ends-then DepotFault said next ends = tt
+ends-then (Absent name) said next ends = ap (λ r. r >>= next) ends
+ends-then (TooLong name limit) said next ends = ap (λ r. r >>= next) ends
+ends-then (File resource fault) said next ends = ap (λ r. r >>= next) ends
+ends-then TextFault said next ends = absurd ends
+ends-then (Unbuilt part) said next ends = ap (λ r. r >>= next) ends
 
-pub long-sound : (rate : ℕ) (name : List ℕ) (file : Option (List ℕ)) → IsSomeAnd file (λ bytes. 67108864 < length bytes) → sound_read rate name file ≡ Err (Unbuilt Resource)
-unfolding is_plain_wave
-long-sound rate name None long = absurd long
-long-sound rate name (Some bytes) long = rw (above 67108864 (length bytes) long) refl
+-- a part that gave what is said, and the next one by it
+pub gives-then : {A B C D : Type 0} (view : C → A) (seen : D → B) (x : C) (answer : Result D Status) (said : Result A Status) (next : A → Result B Status)
+    → said ≡ Ok (view x) → GivesBy seen answer (next (view x)) → GivesBy seen answer (said >>= next)
+gives-then view seen x answer said next is given = subst (λ r. GivesBy seen answer (r >>= next)) (sym is) given
 
 -- ---- a command that ends before it writes
 
 pub IsLeft-same : (o : Outcome) (files : Files) → IsLeft o files files
-IsLeft-same (Ok []) files = refl
-IsLeft-same (Ok (output ∷ outputs)) files = inl refl
+IsLeft-same (Ok report) files = nothing report.outputs files
+  where
+    nothing : (outputs : List Output) (files : Files) → IsWrittenInPart outputs files files
+    nothing [] files = refl
+    nothing (output ∷ outputs) files = inl refl
 IsLeft-same (Err status) files = refl
 
 pub stops : {A : Type 0} (status : Status) (said : Result A Status) (next : A → Outcome) (files : Files) (rose : Type 0)
-    → Ends status said → (is_depot_fault status ≡ true → rose) → Meets (said >>= next) files files rose status
+    → Ends status said → (is_depot_fault status ≡ true → rose) → Stops (said >>= next) files files rose status
 stops Done said next files rose ends cause = absurd ends
 stops OutOfMemory said next files rose ends cause = IsLeft-same (said >>= next) files
 stops (Usage word) said next files rose ends cause = (ap (λ r. r >>= next) ends, refl)
 stops DepotFault said next files rose ends cause = (cause refl, IsLeft-same (said >>= next) files)
 stops (Absent name) said next files rose ends cause = (ap (λ r. r >>= next) ends, refl)
+stops (TooLong name limit) said next files rose ends cause = (ap (λ r. r >>= next) ends, refl)
+stops (File resource fault) said next files rose ends cause = (ap (λ r. r >>= next) ends, refl)
+stops TextFault said next files rose ends cause = absurd ends
 stops (Unbuilt part) said next files rose ends cause = (ap (λ r. r >>= next) ends, refl)
 
 -- ---- a command that writes one file
 
-pub left-in_part : (o : Outcome) (output : Output) (before : Files) (old new : Told) → o ≡ Ok (output ∷ []) → old ≡ Some before
+pub left-in_part : (o : Outcome) (report : Report) (output : Output) (before : Files) (old new : Told) → o ≡ Ok report → report.outputs ≡ output ∷ [] → old ≡ Some before
     → (new ≡ old) ⊎ ((part : List ℕ) × IsPrefix part output.bytes × (new ≡ option_map (put_file output.name part) old))
     → (after : Files) × (new ≡ Some after) × IsLeft o before after
-left-in_part o output before old new is told (inl same) = (before, same ∙ told, IsLeft-same o before)
-left-in_part o output before old new is told (inr (part, prefix, set)) =
-    (put_file output.name part before, set ∙ ap (option_map (put_file output.name part)) told, rw is (inr (inl (part, prefix, refl))))
+left-in_part o report output before old new is only told (inl same) = (before, same ∙ told, IsLeft-same o before)
+left-in_part o report output before old new is only told (inr (part, prefix, set)) = (
+  put_file output.name part before,
+  set ∙ ap (option_map (put_file output.name part)) told,
+  rw is (subst (λ outputs. IsWrittenInPart outputs before (put_file output.name part before)) (sym only) (inr (inl (part, prefix, refl)))),
+)
 
-pub done-whole : (o : Outcome) (output : Output) (before : Files) (old new : Told) (rose : Type 0) → o ≡ Ok (output ∷ []) → old ≡ Some before
-    → new ≡ option_map (put_file output.name output.bytes) old
-    → (after : Files) × (new ≡ Some after) × Meets o before after rose Done
-done-whole o output before old new rose is told set =
-    (put_file output.name output.bytes before, set ∙ ap (option_map (put_file output.name output.bytes)) told, (output ∷ [], is, refl))
+-- ---- from the work on files, and what was printed of it, to the status
 
--- ---- the mix of one sound
+written-left : (outputs : List Output) (files : Files) → IsWrittenInPart outputs files (put_all outputs files)
+written-left [] files = refl
+written-left (output ∷ outputs) files = inr (inr (written-left outputs (put_file output.name output.bytes files)))
 
--- the scene was read
-pub mix-scene : (files : Files) (words : MixWords) (scene : SceneData) → scene_read words.scene (get files words.scene) ≡ Ok scene
-    → mix_outcome files words ≡ mix_sound files words.out scene
-mix-scene files words scene is = ap (λ r. r >>= mix_sound files words.out) is
+module _ (o : Outcome) (before after : Files) (added : List ℕ) (rose cut : Type 0) where
+  left-written : (report : Report) → IsWritten o before after report → IsLeft o before after
+  left-written report w =
+      rw (w.reported, w.set) (written-left report.outputs before)
 
--- the sound was read too
-pub mix-file : (files : Files) (out : List ℕ) (scene : SceneData) (file : List ℕ) → sound_read scene.rate (sound_path scene) (get files (sound_path scene)) ≡ Ok file
-    → mix_sound files out scene ≡ mix_output out scene file
-mix-file files out scene file is = ap (λ r. r >>= mix_output out scene) is
+  refused : (refusal : Status) → o ≡ Err refusal → after ≡ before → IsLeft o before after
+  refused refusal is same = rw is same
+
+  prefix-told : (line : List ℕ) → IsTold cut line added → IsPrefix added line
+  prefix-told line (inl whole) = subst (λ text. IsPrefix added text) whole (IsPrefix-all added)
+  prefix-told line (inr (fault, part)) = part
+
+  told-status : (status : Status) → Stops o before after rose status → IsTold cut (status_line status) added → Meets o before after added rose cut status
+  told-status Done stop told = absurd stop
+  told-status OutOfMemory stop told = (stop, inl (prefix-told (status_line OutOfMemory) told))
+  told-status (Usage word) stop told = record { stops = stop; told = told }
+  told-status DepotFault stop told = record { stops = stop; told = told }
+  told-status (Absent name) stop told = record { stops = stop; told = told }
+  told-status (TooLong name limit) stop told = record { stops = stop; told = told }
+  told-status (File resource fault) stop told = record { stops = stop; told = told }
+  told-status TextFault stop told = absurd stop
+  told-status (Unbuilt part) stop told = record { stops = stop; told = told }
+
+  stop-left : (status : Status) → Stops o before after rose status → IsLeft o before after
+  stop-left Done stop = absurd stop
+  stop-left OutOfMemory stop = stop
+  stop-left (Usage word) stop = refused (Usage word) stop.0 stop.1
+  stop-left DepotFault stop = stop.1
+  stop-left (Absent name) stop = refused (Absent name) stop.0 stop.1
+  stop-left (TooLong name limit) stop = refused (TooLong name limit) stop.0 stop.1
+  stop-left (File resource fault) stop = refused (File resource fault) stop.0 stop.1
+  stop-left TextFault stop = absurd stop
+  stop-left (Unbuilt part) stop = refused (Unbuilt part) stop.0 stop.1
+
+  stop-may_tell : (status : Status) → Stops o before after rose status → IsPrefix added (status_line status) → MayTell o before after added rose
+  stop-may_tell Done stop part = absurd stop
+  stop-may_tell OutOfMemory stop part = inl part
+  stop-may_tell (Usage word) stop part = inr (inl (Usage word, stop.0, part))
+  stop-may_tell DepotFault stop part = inr (inr (inl (stop.0, part)))
+  stop-may_tell (Absent name) stop part = inr (inl (Absent name, stop.0, part))
+  stop-may_tell (TooLong name limit) stop part = inr (inl (TooLong name limit, stop.0, part))
+  stop-may_tell (File resource fault) stop part = inr (inl (File resource fault, stop.0, part))
+  stop-may_tell TextFault stop part = absurd stop
+  stop-may_tell (Unbuilt part) stop prefix = inr (inl (Unbuilt part, stop.0, prefix))
+
+  told-or : (status answer : Status) → Stops o before after rose status → TellsOr status added cut answer → Meets o before after added rose cut answer
+  told-or status answer stop (inl (same, told)) = subst (λ s. Meets o before after added rose cut s) (sym same) (told-status status stop told)
+  told-or status answer stop (inr (same, inl part)) =
+      subst (λ s. Meets o before after added rose cut s) (sym same) (stop-left status stop, stop-may_tell status stop part)
+  told-or status answer stop (inr (same, inr part)) =
+      subst (λ s. Meets o before after added rose cut s) (sym same) (stop-left status stop, inl part)
+
+  told-done : (text : List ℕ) (report : Report) (answer : Status) → IsWritten o before after report → text ≡ report.line
+      → TellsDone text added cut answer → Meets o before after added rose cut answer
+  told-done text report Done w is told = (report, w, told ∙ is)
+  told-done text report OutOfMemory w is told = (left-written report w, inr (inr (inr (report, w, subst (λ line. IsPrefix added line) is told))))
+  told-done text report (Usage word) w is told = absurd told
+  told-done text report DepotFault w is told = absurd told
+  told-done text report (Absent name) w is told = absurd told
+  told-done text report (TooLong name limit) w is told = absurd told
+  told-done text report (File resource fault) w is told = absurd told
+  told-done text report TextFault w is told = (told.0, (report, w, subst (λ line. IsPrefix added line) is told.1))
+  told-done text report (Unbuilt part) w is told = absurd told
+
+  pub meets : (came_to : Result (String Global) Status) (answer : Status) → Works o before after rose came_to → Tells came_to added cut answer → Meets o before after added rose cut answer
+  meets (Ok text) answer (report, w, is) told = told-done (string_bytes text) report answer w is told
+  meets (Err status) answer stop told = told-or status answer stop told

@@ -1,9 +1,10 @@
+pub mod Commands
+pub mod CommandsRead
 pub mod Meets
 pub mod Outcome
-pub mod PlainWave
 pub mod Reading
+pub mod Rendered
 pub mod ScriptFields
 pub mod SingleScript
-pub mod Statuses
-pub mod Words
-pub mod WordsRead
+pub mod SingleSound
+pub mod Telling

@@ -1,10 +1,12 @@
--- What each status says of the files.
-use Rattle.std.specs.Prelude.{◌≡◌, ◌⊎◌, ℕ, List, [], ◌∷◌, Ok, Err}
+-- What each status says of the files and of the text that was printed.
+use Rattle.std.specs.Prelude.{◌≡◌, ◌⊎◌, ℕ, List, [], ◌∷◌, Result, Ok, Err, string_bytes}
+use Rattle.std.specs.Global.{Global}
+use Rattle.std.specs.Prelude.{String}
 use Rattle.snd_io.specs.Answers.{IsPrefix}
 use Rattle.snd_io.specs.Files.{Files, put_file}
-use Rattle.snd_tools.specs.declared.status.Status.{Status}
-use Rattle.snd_tools.specs.declared.status.Status.TheVariants.{Done, OutOfMemory, Usage, DepotFault, Absent, Unbuilt}
-use Rattle.snd_tools.specs.Outcome.{Output, Outcome}
+use Rattle.snd_status.specs.declared.status.Status.{Status}
+use Rattle.snd_status.specs.declared.status.Status.TheVariants.{Done, OutOfMemory, Usage, DepotFault, Absent, TooLong, File, TextFault, Unbuilt}
+use Rattle.snd_tools.specs.Outcome.{Output, Outcome, Report, status_line}
 
 -- the files with each output set, and every other name as before
 abbrev pub put_all : List Output → Files → Files
@@ -21,14 +23,58 @@ IsWrittenInPart (output ∷ outputs) before after =
 
 -- where there is no refusal, the outputs may be written in part
 abbrev pub IsLeft : Outcome → Files → Files → Type 0
-IsLeft (Ok outputs) before after = IsWrittenInPart outputs before after
+IsLeft (Ok report) before after = IsWrittenInPart report.outputs before after
 IsLeft (Err refusal) before after = after ≡ before
 
--- `rose` says that the depot's count of faults rose in the call
-abbrev pub Meets : Outcome → Files → Files → Type 0 → Status → Type 0
-Meets outcome before after rose Done = (outputs : List Output) × (outcome ≡ Ok outputs) × (after ≡ put_all outputs before)
-Meets outcome before after rose OutOfMemory = IsLeft outcome before after
-Meets outcome before after rose (Usage word) = (outcome ≡ Err (Usage word)) × (after ≡ before)
-Meets outcome before after rose DepotFault = rose × IsLeft outcome before after
-Meets outcome before after rose (Absent name) = (outcome ≡ Err (Absent name)) × (after ≡ before)
-Meets outcome before after rose (Unbuilt part) = (outcome ≡ Err (Unbuilt part)) × (after ≡ before)
+-- the outcome is this report, and each of its outputs is set
+pub record IsWritten (outcome : Outcome) (before after : Files) (report : Report) : Type 0 where
+  pub reported : outcome ≡ Ok report
+  pub set : after ≡ put_all report.outputs before
+
+-- What the work on the files came to: all was written, and the line is to be told, or it stopped with a status. `rose` says
+-- that the depot's count of faults rose in the call.
+abbrev pub Stops : Outcome → Files → Files → Type 0 → Status → Type 0
+Stops outcome before after rose Done = ⊥
+Stops outcome before after rose OutOfMemory = IsLeft outcome before after
+Stops outcome before after rose (Usage word) = (outcome ≡ Err (Usage word)) × (after ≡ before)
+Stops outcome before after rose DepotFault = rose × IsLeft outcome before after
+Stops outcome before after rose (Absent name) = (outcome ≡ Err (Absent name)) × (after ≡ before)
+Stops outcome before after rose (TooLong name limit) = (outcome ≡ Err (TooLong name limit)) × (after ≡ before)
+Stops outcome before after rose (File resource fault) = (outcome ≡ Err (File resource fault)) × (after ≡ before)
+Stops outcome before after rose TextFault = ⊥
+Stops outcome before after rose (Unbuilt part) = (outcome ≡ Err (Unbuilt part)) × (after ≡ before)
+
+abbrev pub Works : Outcome → Files → Files → Type 0 → Result (String Global) Status → Type 0
+Works outcome before after rose (Ok text) = (report : Report) × IsWritten outcome before after report × (string_bytes text ≡ report.line)
+Works outcome before after rose (Err status) = Stops outcome before after rose status
+
+-- the line was added, or a prefix of it where the sink's count of faults rose
+abbrev pub IsTold : Type 0 → List ℕ → List ℕ → Type 0
+IsTold cut line added = (added ≡ line) ⊎ (cut × IsPrefix added line)
+
+-- A status of a line, which is told.
+pub record TellsStatus (outcome : Outcome) (before after : Files) (added : List ℕ) (rose cut : Type 0) (status : Status) : Type 0 where
+  pub stops : Stops outcome before after rose status
+  pub told : IsTold cut (status_line status) added
+
+-- where there was no memory, a prefix of one line may have been added: of that of this status, of the refusal, of the depot's
+-- fault, or of the report where every output is set whole
+abbrev pub MayTell : Outcome → Files → Files → List ℕ → Type 0 → Type 0
+MayTell outcome before after added rose =
+    IsPrefix added (status_line OutOfMemory)
+    ⊎ (((refusal : Status) × (outcome ≡ Err refusal) × IsPrefix added (status_line refusal))
+    ⊎ ((rose × IsPrefix added (status_line DepotFault))
+    ⊎ ((report : Report) × IsWritten outcome before after report × IsPrefix added report.line)))
+
+-- `rose` says that the depot's count of faults rose in the call, `cut` that the text sink's did
+abbrev pub Meets : Outcome → Files → Files → List ℕ → Type 0 → Type 0 → Status → Type 0
+Meets outcome before after added rose cut Done = (report : Report) × IsWritten outcome before after report × (added ≡ report.line)
+Meets outcome before after added rose cut TextFault =
+    cut × ((report : Report) × IsWritten outcome before after report × IsPrefix added report.line)
+Meets outcome before after added rose cut OutOfMemory = IsLeft outcome before after × MayTell outcome before after added rose
+Meets outcome before after added rose cut (Usage word) = TellsStatus outcome before after added rose cut (Usage word)
+Meets outcome before after added rose cut DepotFault = TellsStatus outcome before after added rose cut DepotFault
+Meets outcome before after added rose cut (Absent name) = TellsStatus outcome before after added rose cut (Absent name)
+Meets outcome before after added rose cut (TooLong name limit) = TellsStatus outcome before after added rose cut (TooLong name limit)
+Meets outcome before after added rose cut (File resource fault) = TellsStatus outcome before after added rose cut (File resource fault)
+Meets outcome before after added rose cut (Unbuilt part) = TellsStatus outcome before after added rose cut (Unbuilt part)

@@ -1,44 +1,105 @@
--- What a command comes to, from its words and from the files: the first refusal, or the files that are to be written.
-use Rattle.std.specs.Prelude.{ℕ, List, [], ◌∷◌, Result, Ok, Err}
+-- What a command comes to, from its words and from the files: the first refusal, or the files that are to be written and
+-- the line that is to be printed.
+use Rattle.std.specs.Prelude.{ℕ, ℤ, List, [], ◌∷◌, ◌++◌, length, Result, Ok, Err}
 use Rattle.std.specs.FinMap.{get}
+use Rattle.wave_read.specs.declared.wave.Wave.{Wave}
+use Rattle.clip_decode.specs.Pages.{page_count}
 use Rattle.scene_model.specs.SceneData.{SceneData}
 use Rattle.mix_model.specs.Output.{wav}
-use Rattle.mix_model.specs.SingleSound.{single}
+use Rattle.mix_model.specs.Summary.{summary_of}
 use Rattle.snd_io.specs.Files.{Files}
-use Rattle.snd_tools.specs.declared.status.Status.{Status}
-use Rattle.snd_tools.specs.declared.status.Status.TheVariants.{Usage}
-use Rattle.snd_tools.specs.Reading.{scene_read, sound_path, sound_read}
-use Rattle.snd_tools.specs.Words.{MixWords, command}
+use Rattle.snd_status.specs.declared.mix_report.MixReport.{MixReport}
+use Rattle.snd_status.specs.declared.status.Status.{Status}
+use Rattle.snd_status.specs.declared.status.Status.TheVariants.{Usage}
+use Rattle.snd_status.specs.Texts.{mix_text, wave_text, status_text}
+use Rattle.snd_tools.specs.Commands.{Command, Mix, Info, command}
+use Rattle.snd_tools.specs.Reading.{◌>>=◌, file_read, most_sound_bytes, scene_read, sounds_read, surveyed}
+use Rattle.snd_tools.specs.SingleSound.{single}
 
 -- a file that is to be written
 pub record Output : Type 0 where
   pub name : List ℕ
   pub bytes : List ℕ
 
-abbrev pub Outcome : Type 0
-Outcome = Result (List Output) Status
+-- the files, in the order in which they are written, and then the line
+pub record Report : Type 0 where
+  pub outputs : List Output
+  pub line : List ℕ
 
--- the first refusal is the outcome
-infixl 10 ◌>>=◌
-abbrev pub ◌>>=◌ : {A B : Type 0} → Result A Status → (A → Result B Status) → Result B Status
-(Ok x) >>= f = f x
-(Err status) >>= f = Err status
+abbrev pub Outcome : Type 0
+Outcome = Result Report Status
+
+-- each text is one line
+abbrev pub line : List ℕ → List ℕ
+line text = text ++ 10 ∷ []
+
+-- the line of a status
+abbrev pub status_line : Status → List ℕ
+status_line status = line (status_text status)
 
 -- a word that doesn't fit
 abbrev pub usage : {A : Type 0} → Result A ℕ → Result A Status
 usage (Ok words) = Ok words
 usage (Err word) = Err (Usage word)
 
--- OUT is the WAVE file of the scene's frames
-abbrev pub mix_output : List ℕ → SceneData → List ℕ → Outcome
-mix_output out scene file = Ok (record { name = out; bytes = wav scene (single scene file) } ∷ [])
+-- what is told of a scene that was rendered to these frames
+abbrev pub mix_report_of : SceneData → List (List ℤ) → MixReport
+mix_report_of scene frames = record {
+  frames = scene.length;
+  rate = scene.rate;
+  channels = scene.channels;
+  width = scene.width;
+  bytes = length (wav scene frames);
+  peak = (summary_of scene frames).peak;
+  sum = (summary_of scene frames).sum;
+}
 
-abbrev pub mix_sound : Files → List ℕ → SceneData → Outcome
-mix_sound files out scene = sound_read scene.rate (sound_path scene) (get files (sound_path scene)) >>= mix_output out scene
+-- a scene that was rendered: the bytes of its WAVE file, and the line
+pub record Rendering : Type 0 where
+  pub file : List ℕ
+  pub line : List ℕ
 
-abbrev pub mix_outcome : Files → MixWords → Outcome
-mix_outcome files words = scene_read words.scene (get files words.scene) >>= mix_sound files words.out
+abbrev pub rendering : SceneData → List (List ℤ) → Rendering
+rendering scene frames = record { file = wav scene frames; line = line (mix_text (mix_report_of scene frames)) }
+
+-- the scene of SCENE, and then the sound files in the order of its resources
+abbrev pub rendered : Files → List ℕ → Result Rendering Status
+rendered files name = do
+  scene ← scene_read name (get files name)
+  sounds ← sounds_read files scene
+  Ok (rendering scene (single scene sounds))
+
+-- the rendering is the file of that name
+abbrev pub rendered_to : List ℕ → Rendering → Report
+rendered_to out r = record { outputs = record { name = out; bytes = r.file } ∷ []; line = r.line }
+
+-- `mix`: OUT is the WAVE file of the scene
+abbrev pub mix_outcome : Files → List ℕ → List ℕ → Outcome
+mix_outcome files scene out = do
+  r ← rendered files scene
+  Ok (rendered_to out r)
+
+-- `info`: what the file says of its sound
+abbrev pub info_line : Wave → List ℕ
+info_line w = line (wave_text (record { wave = w; pages = page_count w.frames }))
+
+abbrev pub waves_line : List ℕ → Result (List ℕ) Status
+waves_line bytes = do
+  w ← surveyed 0 bytes
+  Ok (info_line w)
+
+abbrev pub only_line : List ℕ → Report
+only_line text = record { outputs = []; line = text }
+
+abbrev pub info_outcome : Files → List ℕ → Outcome
+info_outcome files file = do
+  text ← file_read most_sound_bytes file (get files file) >>= waves_line
+  Ok (only_line text)
+
+abbrev pub command_outcome : Files → Command → Outcome
+command_outcome files (Mix scene out) = mix_outcome files scene out
+command_outcome files (Info file) = info_outcome files file
 
 -- the outcome of the program
 abbrev pub outcome : List (List ℕ) → Files → Outcome
-outcome words files = usage (command words) >>= mix_outcome files
+outcome words files = usage (command words) >>= command_outcome files

@@ -1,35 +1,103 @@
--- What is read of a scene and of its sound file.
-use Rattle.std.specs.Prelude.{◌≡◌, ℕ, List, [], ◌∷◌, Option, Some, None, Result, Ok, Err, if◌then◌else◌}
+-- What is read of a scene and of its sound files, and which refusal comes first.
+use Rattle.std.specs.Prelude.{◌≡◌, ℕ, ◌+◌, nat_lt, Bool, true, false, ◌&&◌, ◌==◌, List, [], ◌∷◌, length, Option, Some, None, Result, Ok, Err, if◌then◌else◌}
+use Rattle.std.specs.FinMap.{get}
+use Rattle.wave_read.specs.Wave.{wave}
+use Rattle.wave_read.specs.declared.kind.Kind.{Kind}
+use Rattle.wave_read.specs.declared.kind.Kind.TheVariants.{Pcm, Alaw, Ulaw, Ima}
+use Rattle.wave_read.specs.declared.wave.Wave.{Wave}
+use Rattle.wave_read.specs.declared.wave_fault.WaveFault.{WaveFault}
 use Rattle.scene_model.specs.declared.resource.Resource.{Resource}
 use Rattle.scene_model.specs.SceneData.{SceneData}
+use Rattle.snd_io.specs.Files.{Files}
+use Rattle.snd_status.specs.declared.status.Part.TheVariants.{Script, Resource as SoundFile}
+use Rattle.snd_status.specs.declared.status.Status.{Status}
+use Rattle.snd_status.specs.declared.status.Status.TheVariants.{Done, OutOfMemory, Usage, DepotFault, Absent, TooLong, File, TextFault, Unbuilt}
 use Rattle.snd_tools.specs.SingleScript.{single_script}
-use Rattle.snd_tools.specs.declared.status.Part.TheVariants.{Script, Resource as SoundFile}
-use Rattle.snd_tools.specs.declared.status.Status.{Status}
-use Rattle.snd_tools.specs.declared.status.Status.TheVariants.{Done, OutOfMemory, Usage, DepotFault, Absent, Unbuilt}
-use Rattle.snd_tools.specs.PlainWave.{is_plain_wave}
+
+-- 4 MiB
+abbrev pub most_script_bytes : ℕ
+most_script_bytes = 4194304
+
+-- 64 MiB, of one sound file
+abbrev pub most_sound_bytes : ℕ
+most_sound_bytes = 67108864
+
+-- 128 MiB, of all sound files of a scene
+abbrev pub most_sounds_bytes : ℕ
+most_sounds_bytes = 134217728
+
+-- the first refusal is what it comes to
+infixl 10 ◌>>=◌
+abbrev pub ◌>>=◌ : {A B : Type 0} → Result A Status → (A → Result B Status) → Result B Status
+(Ok x) >>= f = f x
+(Err status) >>= f = Err status
 
 -- the scene of a script, where the form of the script is built
 abbrev pub scene_or_unbuilt : Option SceneData → Result SceneData Status
 scene_or_unbuilt None = Err (Unbuilt Script)
 scene_or_unbuilt (Some scene) = Ok scene
 
--- what SCENE is, of that name and with these bytes if it is there
+-- a file of that name, which has these bytes if it is there: absent, or longer than the limit, or its bytes
+abbrev pub file_read : ℕ → List ℕ → Option (List ℕ) → Result (List ℕ) Status
+file_read limit name None = Err (Absent name)
+file_read limit name (Some bytes) = if nat_lt limit (length bytes) then Err (TooLong name limit) else Ok bytes
+
+-- SCENE
+abbrev pub script_read : List ℕ → Result SceneData Status
+script_read text = scene_or_unbuilt (single_script text)
+
 abbrev pub scene_read : List ℕ → Option (List ℕ) → Result SceneData Status
-scene_read name None = Err (Absent name)
-scene_read name (Some text) = scene_or_unbuilt (single_script text)
+scene_read name file = file_read most_script_bytes name file >>= script_read
 
--- the path of the first resource
-abbrev pub first_path : List Resource → List ℕ
-first_path [] = []
-first_path (resource ∷ more) = resource.file
+-- with the file that follows them, the sound files have so many bytes in all
+abbrev pub within_sum : ℕ → List ℕ → List ℕ → Result (List ℕ) Status
+within_sum total name bytes =
+    if nat_lt most_sounds_bytes (total + length bytes) then Err (TooLong name most_sounds_bytes) else Ok bytes
 
-abbrev pub sound_path : SceneData → List ℕ
-sound_path scene = first_path scene.resources
+-- the sound of a resource of that number
+abbrev pub file_or_fault : {A : Type 0} → ℕ → Result A WaveFault → Result A Status
+file_or_fault number (Ok x) = Ok x
+file_or_fault number (Err fault) = Err (File number fault)
 
--- what a sound file is at that rate, of that name and with these bytes if it is there
-abbrev pub sound_read : ℕ → List ℕ → Option (List ℕ) → Result (List ℕ) Status
-sound_read rate name None = Err (Absent name)
-sound_read rate name (Some file) = if is_plain_wave rate file then Ok file else Err (Unbuilt SoundFile)
+-- what a sound file says of its sound
+abbrev pub surveyed : ℕ → List ℕ → Result Wave Status
+surveyed number bytes = file_or_fault number (wave bytes)
+
+abbrev pub is_pcm : Kind → Bool
+is_pcm Pcm = true
+is_pcm Alaw = false
+is_pcm Ulaw = false
+is_pcm Ima = false
+
+-- a sound that can be played so far: PCM at the scene's rate and channels
+abbrev pub is_built : ℕ → ℕ → Wave → Bool
+is_built rate channels w = is_pcm w.kind && w.rate == rate && w.channels == channels
+
+abbrev pub built_or_not : ℕ → ℕ → List ℕ → Wave → Result (List ℕ) Status
+built_or_not rate channels bytes w = if is_built rate channels w then Ok bytes else Err (Unbuilt SoundFile)
+
+-- The sound file of a resource, after files of so many bytes in all: its absence, its own length, the sum of the files, the
+-- fault of the file.
+abbrev pub sound_of : ℕ → ℕ → ℕ → ℕ → List ℕ → List ℕ → Result (List ℕ) Status
+sound_of rate channels number total name file = do
+  bytes ← within_sum total name file
+  w ← surveyed number bytes
+  built_or_not rate channels bytes w
+
+abbrev pub sound_read : ℕ → ℕ → ℕ → ℕ → List ℕ → Option (List ℕ) → Result (List ℕ) Status
+sound_read rate channels number total name file = file_read most_sound_bytes name file >>= sound_of rate channels number total name
+
+-- The sound files of resources in their order, where the first has that number and the files before it have so many bytes
+-- in all. A file that two resources name counts twice.
+abbrev pub sounds_from : ℕ → ℕ → Files → ℕ → ℕ → List Resource → Result (List (List ℕ)) Status
+sounds_from rate channels files number total [] = Ok []
+sounds_from rate channels files number total (resource ∷ more) = do
+  bytes ← sound_read rate channels number total resource.file (get files resource.file)
+  sounds ← sounds_from rate channels files (number + 1) (total + length bytes) more
+  Ok (bytes ∷ sounds)
+
+abbrev pub sounds_read : Files → SceneData → Result (List (List ℕ)) Status
+sounds_read files scene = sounds_from scene.rate scene.channels files 0 0 scene.resources
 
 -- a part of the work ended as is said, or the depot failed, or there was no memory
 abbrev pub Ends : {A : Type 0} → Status → Result A Status → Type 0
@@ -38,6 +106,9 @@ Ends OutOfMemory said = Unit {0}
 Ends (Usage word) said = said ≡ Err (Usage word)
 Ends DepotFault said = Unit {0}
 Ends (Absent name) said = said ≡ Err (Absent name)
+Ends (TooLong name limit) said = said ≡ Err (TooLong name limit)
+Ends (File resource fault) said = said ≡ Err (File resource fault)
+Ends TextFault said = ⊥
 Ends (Unbuilt part) said = said ≡ Err (Unbuilt part)
 
 -- a part of the work gave what is said, as `view` sees it, or ended
@@ -45,11 +116,46 @@ abbrev pub GivesBy : {A B : Type 0} → (A → B) → Result A Status → Result
 GivesBy view (Ok x) said = said ≡ Ok (view x)
 GivesBy view (Err status) said = Ends status said
 
+-- whether a part of the work ended because the depot failed
+abbrev pub is_depot_fault : Status → Bool
+is_depot_fault DepotFault = true
+is_depot_fault Done = false
+is_depot_fault OutOfMemory = false
+is_depot_fault (Usage word) = false
+is_depot_fault (Absent name) = false
+is_depot_fault (TooLong name limit) = false
+is_depot_fault (File resource fault) = false
+is_depot_fault TextFault = false
+is_depot_fault (Unbuilt part) = false
+
+abbrev pub stopped_by_depot : {A : Type 0} → Result A Status → Bool
+stopped_by_depot (Ok x) = false
+stopped_by_depot (Err status) = is_depot_fault status
+
+-- whether the work on files can stop with a status: not with `Done`, nor with the fault of the text sink
+abbrev pub can_stop_with : Status → Bool
+can_stop_with Done = false
+can_stop_with TextFault = false
+can_stop_with OutOfMemory = true
+can_stop_with (Usage word) = true
+can_stop_with DepotFault = true
+can_stop_with (Absent name) = true
+can_stop_with (TooLong name limit) = true
+can_stop_with (File resource fault) = true
+can_stop_with (Unbuilt part) = true
+
+abbrev pub can_stop : {A : Type 0} → Result A Status → Bool
+can_stop (Ok x) = true
+can_stop (Err status) = can_stop_with status
+
 -- the refusal of a name, or want of memory
 abbrev pub IsAbsent : Status → List ℕ → Type 0
-IsAbsent (Absent name) absent = name ≡ absent
-IsAbsent OutOfMemory absent = Unit {0}
-IsAbsent Done absent = ⊥
-IsAbsent (Usage word) absent = ⊥
-IsAbsent DepotFault absent = ⊥
-IsAbsent (Unbuilt part) absent = ⊥
+IsAbsent (Absent found) name = found ≡ name
+IsAbsent OutOfMemory name = Unit {0}
+IsAbsent _ name = ⊥
+
+-- the refusal of a file that passes this limit, or want of memory
+abbrev pub IsTooLong : Status → List ℕ → ℕ → Type 0
+IsTooLong (TooLong found passed) name limit = (found ≡ name) × (passed ≡ limit)
+IsTooLong OutOfMemory name limit = Unit {0}
+IsTooLong _ name limit = ⊥

@@ -1,5 +1,5 @@
 -- The script of one sound, and the scene that it stands for.
-use Rattle.std.specs.Prelude.{◌≤◌, ℕ, Bool, true, false, ◌&&◌, not, nat_le, codes, if◌then◌else◌, List, [], ◌∷◌, length, IsTrue, Option, Some, None, option_map}
+use Rattle.std.specs.Prelude.{◌≤◌, ℕ, Bool, true, false, ◌&&◌, not, codes, if◌then◌else◌, List, [], ◌∷◌, length, IsTrue, Option, Some, None, option_map}
 use Rattle.std.specs.Str.{bytes_eq, is_utf8}
 use Rattle.toml.specs.Data.{Members}
 use Rattle.toml.specs.Parse.{parse_document}
@@ -9,10 +9,6 @@ use Rattle.scene_model.specs.IsScene.{is_width}
 use Rattle.scene_model.specs.Limits as limits
 use Rattle.scene_model.specs.SceneData.{SceneData}
 use Rattle.snd_tools.specs.ScriptFields.{◌>>=◌, passing, has_only_keys, integer_within, integer_among, has_text, name_at, file_at, only_row}
-
--- 4 MiB
-abbrev pub most_script_bytes : ℕ
-most_script_bytes = 4194304
 
 -- the numbers at the top of a script
 pub record Header : Type 0 where
@@ -35,13 +31,13 @@ pub record IsHeader (h : Header) : Type 0 where
   pub width_is : IsTrue (is_width h.width)
   pub length_most : h.length ≤ limits.most_frames
 
--- the numbers at the top: version 1, the rate, one channel, 16 bits, the length
+-- the numbers at the top: version 1, the rate, the channels, the bits of a sample, the length
 unfoldable pub header : Members → Option Header
 header script = do
   version ← integer_among (limits.version ∷ []) (codes "version") script
   rate ← integer_within 1 limits.most_rate (codes "rate") script
-  channels ← integer_among (1 ∷ []) (codes "channels") script
-  width ← integer_among (16 ∷ []) (codes "width") script
+  channels ← integer_within 1 limits.most_channels (codes "channels") script
+  width ← integer_among (16 ∷ 24 ∷ []) (codes "width") script
   length ← integer_within 0 limits.most_frames (codes "length") script
   Some (record { rate = rate; channels = channels; width = width; length = length })
 
@@ -101,9 +97,9 @@ scene_of s = record {
   edits = [];
 }
 
--- the table of a TOML document of at most 4 MiB
+-- the table of a TOML document
 unfoldable pub document : List ℕ → Option Members
-document text = if nat_le (length text) most_script_bytes && is_utf8 text then parse_document text else None
+document text = if is_utf8 text then parse_document text else None
 
 -- the scene of a script of one sound, and nothing for any other text
 unfoldable pub single_script : List ℕ → Option SceneData

@@ -2,18 +2,21 @@
 //! text; and the real edge, files on disk and standard output.
 #![tactic(auto)]
 
+mod command;
 mod disk_depot;
-mod plain_wave;
-mod reading;
+mod fetching;
+mod info;
+mod mix;
+mod rendering;
 mod script_fields;
 mod single_script;
-mod status;
+mod single_sound;
+mod telling;
 mod text_out;
 mod tool;
-mod words;
 mod writing;
 
 pub use disk_depot::DiskDepot;
-pub use status::{Part, Status};
+pub use snd_status::{Part, Status};
 pub use text_out::TextOut;
 pub use tool::run_tool;

@@ -13,9 +13,6 @@ use std::alloc::{AllocError, Global};
 use std::marker::Model;
 use toml::Table;
 
-/// The most bytes of a script.
-const MAX_SCRIPT_BYTES: usize = 4_194_304;
-
 /// The word for the endpoint, which no node may have for its name.
 const ENDPOINT: &str = "endpoint";
 
@@ -24,9 +21,9 @@ const SCENE_KEYS: [&str; 8] = [
     "version", "rate", "channels", "width", "length", "resource", "node", "bus",
 ];
 
-/// Reads a script of one sound: a TOML document of at most 4,194,304 bytes with one resource, one
+/// Reads a script of one sound: a TOML document with one resource, one
 /// sound that plays it, and one bus from the sound to the endpoint, each with the keys that it
-/// needs and no other, in a scene of one channel and 16 bits. The scene has the sound started, from
+/// needs and no other. The scene has the sound started, from
 /// its first frame to its end, at gain 1.0. A text of any other form is `None`.
 ///
 /// # Errors
@@ -45,14 +42,11 @@ pub(crate) fn read_single(alloc: Global, text: &[u8]) -> Result<Option<Scene>, A
     }
 }
 
-/// The table of a TOML document, where the text is one and isn't too long.
+/// The table of a TOML document, where the text is one.
 #[tactic(auto, unfolding(crate::specs::SingleScript::document), using(crate::proofs::Documents::document_read, crate::proofs::Documents::document_refused))]
 fn document(alloc: Global, text: &[u8]) -> Result<Option<Table>, AllocError>
     ensures { IfOk result (λ table. option_map table_view table ≡ spec.document text.now) }
 {
-    if text.len() > MAX_SCRIPT_BYTES {
-        return Ok(None);
-    }
     match toml::table_from_slice(alloc, text) {
         Ok(table) => Ok(Some(table)),
         Err(error) if error.is_memory() => Err(AllocError),
@@ -87,8 +81,8 @@ impl Header {
     {
         integer_among(script, "version", &[1])?;
         let rate = integer_within(script, "rate", 1, MAX_RATE)?;
-        let channels = integer_among(script, "channels", &[1])?;
-        let width = integer_among(script, "width", &[16])?;
+        let channels = integer_within(script, "channels", 1, 2)? as u8;
+        let width = integer_among(script, "width", &[16, 24])?;
         let length = integer_within(script, "length", 0, MAX_LENGTH)?;
         Some(Header {
             rate,

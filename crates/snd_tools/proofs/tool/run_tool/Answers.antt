@@ -1,11 +1,8 @@
-use Rattle.std.proofs.Common.{ap, refl}
-use Rattle.snd_tools.specs.Outcome.{◌>>=◌, usage, mix_outcome}
+use Rattle.snd_tools.proofs.Outcomes.{meets}
 use Rattle.snd_tools.proofs.tool.run_tool.Goals as goal
 
-pub returns-in-Ok-clause-told : goal.returns-in-Ok-clause-told
-returns-in-Ok-clause-told g c = λ before told.
-    let done = c.mix.ensures.told before told in
-    (done.0, done.1, rw c.in-Ok.ensures done.2)
-
-pub returns-in-Err-clause-told : goal.returns-in-Err-clause-told
-returns-in-Err-clause-told g c = λ before told. (before, told, (ap (λ r. usage r >>= mix_outcome before) c.in-Err.ensures, refl))
+pub returns-clause-told : goal.returns-clause-told
+returns-clause-told g c = λ before told.
+    let work = c.carry_out-came_to.ensures.told before told in
+    let tells = c.tell.ensures.tells in
+    (work.0, tells.0, work.1, tells.1, meets _ before work.0 tells.0 _ _ c.carry_out-came_to.result c.tell.result work.2 tells.2)

@@ -1,0 +1,62 @@
+-- The sound files.
+use Rattle.std.specs.Prelude.{◌≡◌, ℕ, zero, suc, ◌+◌, ◌*◌, ◌/◌, ◌%◌, nat_lt, if◌then◌else◌, ℤ, pos, ◌-ℤ◌, ◌*ℤ◌, List, [], ◌∷◌, ◌++◌, map, codes, refl}
+use Rattle.std.specs.Fmt.{decimal}
+use Rattle.std.specs.List.{range_with_len}
+use Rattle.std.proofs.Common.{ap, arith}
+use Rattle.wave_write.specs.Header.{header}
+use Rattle.wave_write.specs.Samples.{packed}
+use Rattle.gen_scene.specs.Draws.{draw}
+
+abbrev pub sounds : ℕ
+sounds = 8
+
+abbrev pub sound_frames : ℕ
+sound_frames = 220500
+
+-- sound i is mono where i is even, and stereo where it is odd
+abbrev pub sound_channels : ℕ → ℕ
+sound_channels i = 1 + i % 2
+
+-- Hz
+abbrev pub sound_rate : ℕ → ℕ
+sound_rate i = if nat_lt i 4 then 44100 else 48000
+
+abbrev pub sound_samples : ℕ → ℕ
+sound_samples i = sound_frames * sound_channels i
+
+-- the number of the draw that is the first sample of sound i: draws go on from file to file
+abbrev pub first_draw : ℕ → ℕ
+first_draw zero = 0
+first_draw (suc i) = first_draw i + sound_samples i
+
+-- a sample of 16 bits is a draw less 32768, here as a sample of 24 bits
+abbrev pub noise_sample : ℕ → ℕ → ℤ
+noise_sample number n = (pos (draw number n) -ℤ pos 32768) *ℤ pos 256
+
+-- the samples that so many draws from draw `from` on are
+abbrev pub noise : ℕ → ℕ → ℕ → List ℤ
+noise number from count = map (noise_sample number) (range_with_len from count)
+
+unfoldable pub sound_file : ℕ → ℕ → List ℕ
+sound_file number i =
+    header (sound_channels i) (sound_rate i) 16 sound_frames ++ packed 16 (noise number (first_draw i) (sound_samples i))
+
+-- PREFIX-I.wav
+abbrev pub sound_name : List ℕ → ℕ → List ℕ
+sound_name prefix i = prefix ++ codes "-" ++ decimal i ++ codes ".wav"
+
+-- ---- laws
+
+numbers-join : (f : ℕ → ℤ) (a m n : ℕ) → map f (range_with_len a (m + n)) ≡ map f (range_with_len a m) ++ map f (range_with_len (a + m) n)
+numbers-join f a zero n =
+    let e : 0 + n ≡ n = omega arith in
+    let k : a + 0 ≡ a = omega arith in
+    rw (e, k) refl
+numbers-join f a (suc m) n =
+    let e : suc m + n ≡ suc (m + n) = omega arith in
+    let k : a + 1 + m ≡ a + suc m = omega arith in
+    rw (e, ← k) (ap (λ xs. f a ∷ xs) (numbers-join f (a + 1) m n))
+
+-- samples that follow one another
+pub noise-join : (number from m n : ℕ) → noise number from (m + n) ≡ noise number from m ++ noise number (from + m) n
+noise-join number from m n = numbers-join (noise_sample number) from m n

@@ -1,0 +1,19 @@
+//! A stated large scene, made from a number: eight sound files of noise and the script of a scene
+//! that plays them through four groups, with edits all along. Each of its bytes is a definition of
+//! the number, so that everybody who measures an engine by it measures the same work.
+//!
+//! [`Draws`] are the numbers of the generator. The sounds are PCM of 16 bits, 220500 frames each:
+//! sound `i` is mono where `i` is even and stereo where it is odd, at 44100 Hz for the first four
+//! and at 48000 Hz for the others. [`noise`] gives their samples, one draw each, and [`script`] the
+//! script, whose gains and edits are the draws that follow.
+#![tactic(auto)]
+
+mod draws;
+mod noise_samples;
+mod script_text;
+mod sounds;
+
+pub use draws::Draws;
+pub use noise_samples::noise;
+pub use script_text::script;
+pub use sounds::{SOUND_FRAMES, SOUNDS, sound_channels, sound_rate};

@@ -1,0 +1,27 @@
+ghost use Rattle.std.specs.Prelude.{◌≡◌, ◌+◌, ◌<◌, ◌^◌, ℕ, pos, ◌-ℤ◌, ◌*ℤ◌, length, All};
+ghost use Rattle.gen_scene.specs.Draws.{state, stepped, drawn};
+ghost use Rattle.gen_scene.specs.Sounds as spec;
+ghost use Rattle.mix_fixed.specs.Sound.{Is24};
+
+use crate::draws::Draws;
+
+/// Fills `out` with samples of noise in 24 bits, each of 16 bits with eight more low bits, which are
+/// 0: one draw each, in order.
+pub fn noise(draws: &mut Draws, out: &mut [i32])
+    ensures value { (number n : ℕ) → draws.old ≡ state number n → out.new ≡ spec.noise number n (length out.old) }
+    ensures draws { (number n : ℕ) → draws.old ≡ state number n → draws.new ≡ state number (n + length out.old) }
+    ensures range { All Is24 out.new }
+{
+    for i in 0..out.len() {
+        out[i] = noise_sample(draws);
+    }
+}
+
+/// A sample of 16 bits, which is a draw less 32768, in 24 bits.
+fn noise_sample(draws: &mut Draws) -> i32
+    ensures value { result ≡ (pos (drawn (stepped draws.old)) -ℤ pos 32768) *ℤ pos 256 }
+    ensures draws { draws.new ≡ stepped draws.old }
+    ensures range { Is24 result }
+{
+    (draws.next() as i32 - 32_768) * 256
+}

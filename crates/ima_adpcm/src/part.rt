@@ -1,0 +1,85 @@
+//! A part of a block, for a reader that stops inside a block and goes on.
+
+ghost use Rattle.std.specs.Prelude.{◌≡◌, ℕ, ◌+◌, ◌-◌, ◌*◌, ◌<◌, ◌≤◌, length};
+ghost use Rattle.ima_adpcm.specs.Blocks.{block_frames, block_sample, block_state, header_index};
+ghost use Rattle.ima_adpcm.specs.Frames.{ChannelWritten, DecodersAt, FramesAre};
+ghost use Rattle.ima_adpcm.specs.Quantizer.{last_index};
+
+use crate::block::{channel_into, header, put};
+use crate::ima::Ima;
+use std::ops::Range;
+
+/// Writes frames 0 to `count - 1` of one channel, and leaves its decoder at the last of them.
+fn channel_start_into(block: &[u8], ch: u8, c: u8, count: usize, decoder: &mut Ima, out: &mut [i16])
+    requires channel { c < ch }
+    requires some { 0 < count }
+    requires there { count ≤ block_frames (length block.now) ch }
+    requires sound { header_index block.now c ≤ last_index }
+    requires room { count * ch ≤ length out.old }
+    ensures decoder { decoder.new ≡ block_state block.now ch c (count - 1) }
+    ensures written { ChannelWritten ch c 0 count (block_sample block.now ch c) out.old out.new }
+{
+    let Some(first) = header(block, c) else {
+        unreachable!()
+    };
+    *decoder = first;
+    put(out, ch, 0, c, first.predictor());
+    channel_into(block, ch, c, 0..count - 1, decoder, out, 1);
+}
+
+/// Writes the frames `frames` of one channel, whose decoder stands at the frame before them, and
+/// leaves it at the last of them.
+fn channel_part_into(
+    block: &[u8],
+    ch: u8,
+    c: u8,
+    frames: Range<usize>,
+    decoder: &mut Ima,
+    out: &mut [i16],
+)
+    requires channel { c < ch }
+    requires some { frames.start < frames.end }
+    requires there { frames.end ≤ block_frames (length block.now) ch }
+    requires sound { header_index block.now c ≤ last_index }
+    requires stands { 0 < frames.start → decoder.old ≡ block_state block.now ch c (frames.start - 1) }
+    requires room { (frames.end - frames.start) * ch ≤ length out.old }
+    ensures decoder { decoder.new ≡ block_state block.now ch c (frames.end - 1) }
+    ensures written { ChannelWritten ch c 0 (frames.end - frames.start)
+        (λ i. block_sample block.now ch c (frames.start + i)) out.old out.new }
+{
+    if frames.start == 0 {
+        return channel_start_into(block, ch, c, frames.end, decoder, out);
+    }
+    channel_into(
+        block,
+        ch,
+        c,
+        frames.start - 1..frames.end - 1,
+        decoder,
+        out,
+        0,
+    );
+}
+
+/// Decodes the frames `frames` of a block of `ch` channels to the front of `out`, interleaved: the
+/// sample of channel `c` in frame `f` of the block goes to `(f - frames.start) * ch + c`.
+///
+/// `decoders` are those of the channels. Before frame 0 they may be any, and their headers are read;
+/// before a later frame they stand at the frame before `frames.start`, as an earlier part left
+/// them. They are left at the last of `frames`. All headers have a step index of at most 88.
+pub fn part_into(block: &[u8], ch: u8, frames: Range<usize>, decoders: &mut [Ima], out: &mut [i16])
+    requires decoders { ch ≤ length decoders.old }
+    requires some { frames.start < frames.end }
+    requires there { frames.end ≤ block_frames (length block.now) ch }
+    requires sound { (c : ℕ) → c < ch → header_index block.now c ≤ last_index }
+    requires stand { 0 < frames.start → DecodersAt block.now ch (frames.start - 1) decoders.old }
+    requires room { (frames.end - frames.start) * ch ≤ length out.old }
+    ensures stand { DecodersAt block.now ch (frames.end - 1) decoders.new }
+    ensures written { FramesAre ch (frames.end - frames.start)
+        (λ f c. block_sample block.now ch c (frames.start + f)) out.new }
+{
+    for c in 0..ch {
+        let decoder = &mut decoders[usize::from(c)];
+        channel_part_into(block, ch, c, frames.start..frames.end, decoder, out);
+    }
+}

@@ -1,0 +1,88 @@
+ghost use Rattle.std.specs.Prelude.{◌≡◌};
+
+use crate::fault_text::FaultText;
+use plain_data::Text;
+use std::fmt;
+use wave_read::WaveFault;
+
+/// How a command ended.
+#[derive(Debug, PartialEq, Eq, Drop)]
+pub enum Status {
+    /// It did all that its words ask for.
+    Done,
+    /// There was no memory.
+    OutOfMemory,
+    /// The word with this number, counted from 0, doesn't fit.
+    Usage { word: u32 },
+    /// The store of files failed.
+    DepotFault,
+    /// There is no file of this name.
+    Absent { name: Text },
+    /// The file of this name, or with it the sum of all sound files, has more bytes than this limit.
+    TooLong { name: Text, limit: u64 },
+    /// The sound file of the resource of this number, counted from 0, is refused.
+    File { resource: u32, fault: WaveFault },
+    /// The text that the command prints couldn't be written. All files are.
+    TextFault,
+    /// What was asked for isn't built yet.
+    Unbuilt { part: Part },
+}
+
+/// What isn't built yet.
+#[derive(Clone, Copy, Debug, PartialEq, Eq)]
+pub enum Part {
+    /// A scene of that form.
+    Script,
+    /// A sound file of that form.
+    Resource,
+}
+
+impl Status {
+    ghost use Rattle.snd_status.specs.Statuses.{code};
+
+    /// The number with which the program ends.
+    pub fn code(&self) -> u8
+        ensures { result ≡ code self.now }
+    {
+        match self {
+            Status::Done => 0,
+            Status::OutOfMemory => 1,
+            Status::Usage { .. } => 2,
+            Status::DepotFault => 3,
+            Status::Absent { .. } => 4,
+            Status::TooLong { .. } => 5,
+            Status::File { .. } => 7,
+            Status::TextFault => 8,
+            Status::Unbuilt { .. } => 10,
+        }
+    }
+}
+
+/// The text of a status: that of a refusal names what is refused, by its place and its value.
+impl fmt::Display for Status {
+    ghost use Rattle.std.specs.Prelude.{Some};
+    ghost use Rattle.snd_status.specs.Texts.{status_text};
+
+    ghost output = { λ status. Some (status_text status) };
+
+    fn fmt<W: fmt::Write>(&self, f: &mut fmt::Formatter<W>) -> fmt::Result {
+        match self {
+            Status::Done => f.write_str("done"),
+            Status::OutOfMemory => f.write_str("out of memory"),
+            Status::Usage { word } => write!(f, "usage: word {word}"),
+            Status::DepotFault => f.write_str("depot failed"),
+            Status::Absent { name } => write!(f, "absent: {}", name.as_str()),
+            Status::TooLong { name, limit } => {
+                write!(f, "too long: {} limit {limit}", name.as_str())
+            }
+            Status::File { resource, fault } => {
+                write!(f, "file: {resource}: {}", FaultText::new(*fault))
+            }
+            Status::TextFault => f.write_str("text failed"),
+            Status::Unbuilt { part: Part::Script } => f.write_str("not built: script"),
+            Status::Unbuilt {
+                part: Part::Resource,
+            } => f.write_str("not built: resource"),
+        }
+    }
+}

@@ -1,0 +1,17 @@
+use Rattle.std.proofs.Common.{ap, refl}
+use Rattle.snd_tools.specs.Outcome.{usage, command_outcome}
+use Rattle.snd_tools.specs.Reading.{◌>>=◌}
+use Rattle.snd_tools.proofs.tool.carry_out.Goals as goal
+
+pub returns-in-Ok-Mix-clause-told : goal.returns-in-Ok-Mix-clause-told
+returns-in-Ok-Mix-clause-told g c = λ before told.
+    let done = c.mix.ensures.told before told in
+    (done.0, done.1, rw (c.in-Ok-Mix.ensures, c.in-Ok-Mix.field-0-is) done.2)
+
+pub returns-in-Ok-Info-clause-told : goal.returns-in-Ok-Info-clause-told
+returns-in-Ok-Info-clause-told g c = λ before told.
+    let done = c.info.ensures.told before told in
+    (done.0, done.1, rw (c.in-Ok-Info.ensures, c.in-Ok-Info.field-0-is) done.2)
+
+pub returns-in-Err-clause-told : goal.returns-in-Err-clause-told
+returns-in-Err-clause-told g c = λ before told. (before, told, (ap (λ r. usage r >>= command_outcome before) c.in-Err.ensures, refl))

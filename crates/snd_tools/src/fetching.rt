@@ -1,0 +1,208 @@
+ghost use Rattle.std.specs.Prelude.{◌≡◌, true, ◌+◌, ◌≤◌, false, None, Some, IfSome, IfOk, IsTrue, map, length, All};
+ghost use Rattle.std.specs.FinMap.{get};
+ghost use Rattle.snd_io.specs.Faults.{CountsFaults};
+ghost use Rattle.snd_tools.specs.Reading as spec;
+ghost use Rattle.snd_tools.specs.Reading.{Ends, GivesBy, stopped_by_depot, can_stop};
+
+use crate::single_script::read_single;
+use clip_decode::{Clip, ClipError};
+use plain_data::Text;
+use scene_model::{Resource, Scene};
+use snd_io::{Depot, Fetch};
+use snd_status::{Part, Status};
+use std::alloc::Global;
+use std::marker::Model;
+use wave_read::{Kind, Wave};
+
+/// The most bytes of a script.
+const MAX_SCRIPT_BYTES: u64 = 4_194_304;
+
+/// The most bytes of a sound file.
+pub(crate) const MAX_SOUND_BYTES: u64 = 67_108_864;
+
+/// The most bytes of all sound files of a scene.
+const MAX_SOUNDS_BYTES: u64 = 134_217_728;
+
+/// Fetches a file of at most `limit` bytes, and no file changes.
+pub(crate) fn fetch_file<D: Depot>(
+    alloc: Global,
+    depot: &mut D,
+    name: &str,
+    limit: u64,
+) -> Result<Vec<u8>, Status>
+    requires { D.writing depot.old ≡ None }
+    ensures told { IfSome (D.files depot.old) (λ files. GivesBy (λ bytes. bytes.items) result (spec.file_read limit name.now (get files name.now))) }
+    ensures limit { IfOk result (λ bytes. length bytes.items ≤ limit) }
+    ensures files { D.files depot.new ≡ D.files depot.old }
+    ensures closed { D.writing depot.new ≡ None }
+    ensures cause { CountsFaults (D.faults depot.old) (D.faults depot.new) (stopped_by_depot result) }
+    ensures stop { can_stop result ≡ true }
+{
+    let mut bytes = Vec::new(alloc);
+    match depot.fetch(alloc, name, limit, &mut bytes) {
+        Fetch::Fetched => Ok(bytes),
+        Fetch::Absent => Err(absent(alloc, name)),
+        Fetch::TooLong => Err(too_long(alloc, name, limit)),
+        Fetch::Failed => Err(Status::DepotFault),
+        Fetch::OutOfMemory => Err(Status::OutOfMemory),
+    }
+}
+
+/// Reads the scene of SCENE, and no file changes.
+pub(crate) fn read_scene<D: Depot>(
+    alloc: Global,
+    depot: &mut D,
+    name: &str,
+) -> Result<Scene, Status>
+    requires { D.writing depot.old ≡ None }
+    ensures told { IfSome (D.files depot.old) (λ files. GivesBy (λ scene. scene) result (spec.scene_read name.now (get files name.now))) }
+    ensures files { D.files depot.new ≡ D.files depot.old }
+    ensures closed { D.writing depot.new ≡ None }
+    ensures cause { CountsFaults (D.faults depot.old) (D.faults depot.new) (stopped_by_depot result) }
+    ensures stop { can_stop result ≡ true }
+{
+    match fetch_file(alloc, depot, name, MAX_SCRIPT_BYTES) {
+        Ok(text) => scene_of(alloc, &text),
+        Err(status) => Err(status),
+    }
+}
+
+/// The scene of a script.
+fn scene_of(alloc: Global, text: &[u8]) -> Result<Scene, Status>
+    ensures value { GivesBy (λ scene. scene) result (spec.script_read text.now) }
+    ensures no_fault { stopped_by_depot result ≡ false }
+    ensures stop { can_stop result ≡ true }
+{
+    match read_single(alloc, text) {
+        Ok(Some(scene)) => Ok(scene),
+        Ok(None) => Err(Status::Unbuilt { part: Part::Script }),
+        Err(_) => Err(Status::OutOfMemory),
+    }
+}
+
+/// Reads the sound files of resources in their order, and no file changes.
+pub(crate) fn read_sounds<D: Depot>(
+    alloc: Global,
+    depot: &mut D,
+    rate: u32,
+    channels: u8,
+    resources: &[Resource],
+) -> Result<Vec<Clip>, Status>
+    requires closed { D.writing depot.old ≡ None }
+    requires few { length resources.now ≤ 64 }
+    ensures told { IfSome (D.files depot.old) (λ files. GivesBy (λ clips. map (λ clip. clip.bytes) clips.items) result (spec.sounds_from rate channels files 0 0 resources.now)) }
+    ensures built { IfOk result (λ clips. All (λ clip. IsTrue (spec.is_built rate channels clip.wave)) clips.items) }
+    ensures files { D.files depot.new ≡ D.files depot.old }
+    ensures closed { D.writing depot.new ≡ None }
+    ensures cause { CountsFaults (D.faults depot.old) (D.faults depot.new) (stopped_by_depot result) }
+    ensures stop { can_stop result ≡ true }
+{
+    let mut clips = Vec::new(alloc);
+    let mut total = 0;
+    for (number, resource) in resources.iter().enumerate() {
+        let file = resource.file.as_str();
+        match read_sound(alloc, depot, rate, channels, number as u32, total, file) {
+            Ok(clip) => {
+                total += clip.bytes().len() as u64;
+                if clips.push(clip).is_err() {
+                    return Err(Status::OutOfMemory);
+                }
+            }
+            Err(status) => return Err(status),
+        }
+    }
+    Ok(clips)
+}
+
+/// Reads the sound file of the resource of that number, where the files before it have `total` bytes
+/// in all.
+fn read_sound<D: Depot>(
+    alloc: Global,
+    depot: &mut D,
+    rate: u32,
+    channels: u8,
+    number: u32,
+    total: u64,
+    name: &str,
+) -> Result<Clip, Status>
+    requires closed { D.writing depot.old ≡ None }
+    requires total { total ≤ 134217728 }
+    ensures told { IfSome (D.files depot.old) (λ files. GivesBy (λ clip. clip.bytes) result (spec.sound_read rate channels number total name.now (get files name.now))) }
+    ensures built { IfOk result (λ clip. IsTrue (spec.is_built rate channels clip.wave)) }
+    ensures sum { IfOk result (λ clip. total + length clip.bytes ≤ 134217728) }
+    ensures files { D.files depot.new ≡ D.files depot.old }
+    ensures closed { D.writing depot.new ≡ None }
+    ensures cause { CountsFaults (D.faults depot.old) (D.faults depot.new) (stopped_by_depot result) }
+    ensures stop { can_stop result ≡ true }
+{
+    match fetch_file(alloc, depot, name, MAX_SOUND_BYTES) {
+        Ok(bytes) => clip_of(alloc, rate, channels, number, total, name, bytes),
+        Err(status) => Err(status),
+    }
+}
+
+/// The clip of a sound file, or its refusal.
+fn clip_of(
+    alloc: Global,
+    rate: u32,
+    channels: u8,
+    number: u32,
+    total: u64,
+    name: &str,
+    bytes: Vec<u8>,
+) -> Result<Clip, Status>
+    requires total { total ≤ 134217728 }
+    requires length { length bytes.items ≤ 67108864 }
+    ensures value { GivesBy (λ clip. clip.bytes) result (spec.sound_of rate channels number total name.now bytes.items) }
+    ensures built { IfOk result (λ clip. IsTrue (spec.is_built rate channels clip.wave)) }
+    ensures sum { IfOk result (λ clip. total + length clip.bytes ≤ 134217728) }
+    ensures no_fault { stopped_by_depot result ≡ false }
+    ensures stop { can_stop result ≡ true }
+{
+    if total + bytes.len() as u64 > MAX_SOUNDS_BYTES {
+        return Err(too_long(alloc, name, MAX_SOUNDS_BYTES));
+    }
+    match Clip::new(alloc, bytes) {
+        Ok(clip) if is_built(rate, channels, clip.wave()) => Ok(clip),
+        Ok(_) => Err(Status::Unbuilt {
+            part: Part::Resource,
+        }),
+        Err(ClipError::Fault(fault)) => Err(Status::File {
+            resource: number,
+            fault,
+        }),
+        Err(ClipError::OutOfMemory) => Err(Status::OutOfMemory),
+    }
+}
+
+/// Whether a sound can be played so far: PCM at the scene's rate and channels.
+fn is_built(rate: u32, channels: u8, wave: &Wave) -> bool
+    ensures { result ≡ spec.is_built rate channels wave.now }
+{
+    matches!(wave.kind, Kind::Pcm) && wave.rate == rate && wave.channels == channels
+}
+
+/// The refusal of a name that isn't there.
+fn absent(alloc: Global, name: &str) -> Status
+    ensures { spec.IsAbsent result name.now }
+{
+    match String::from_str(alloc, name) {
+        Ok(name) => Status::Absent {
+            name: Text::new(name),
+        },
+        Err(_) => Status::OutOfMemory,
+    }
+}
+
+/// The refusal of a file that passes a limit.
+fn too_long(alloc: Global, name: &str, limit: u64) -> Status
+    ensures { spec.IsTooLong result name.now limit }
+{
+    match String::from_str(alloc, name) {
+        Ok(name) => Status::TooLong {
+            name: Text::new(name),
+            limit,
+        },
+        Err(_) => Status::OutOfMemory,
+    }
+}

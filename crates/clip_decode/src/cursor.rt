@@ -14,7 +14,7 @@ const MAX_CHANNELS: usize = 8;
 pub struct Cursor {
     pub(crate) page: u64,
     /// The decoders of IMA ADPCM, by channel, at the last frame before the page.
-    pub(crate) decoders: [Ima; 8],
+    pub(crate) decoders: [Ima; MAX_CHANNELS],
 }
 
 impl Cursor {

@@ -33,4 +33,4 @@ pub use laws::{
     frames_are_few, frames_have_samples, no_frames_where_refused, pages_are_the_frames,
     pages_have_samples,
 };
-pub use page::{Page, pages};
+pub use page::{FRAMES_PER_PAGE, Page, pages};

@@ -52,7 +52,8 @@ fn sample_24(container: &[u8]) -> i32
     ensures exact { result ≡ pcm_value container.now }
     ensures range { Is24 result }
 {
-    LittleEndian::read_i24(container)
+    let low = i32::from(container[0]) + i32::from(container[1]) * 256;
+    low + i32::from(container[2].cast_signed()) * 65_536
 }
 
 /// The same of four bytes.

@@ -1,2 +1,13 @@
+pub mod Depths
+pub mod Due
+pub mod Laws
+pub mod Mix
 pub mod Output
+pub mod Playing
+pub mod Pulled
+pub mod Rendering
+pub mod Signals
+pub mod Sizes
 pub mod Summary
+pub mod Turns
+pub mod Wires

@@ -1,9 +1,6 @@
 -- What is told of a rendering in a few numbers.
 use Rattle.std.specs.Prelude.{ℕ, ◌%◌, ◌^◌, max, ℤ, List, fold, sum, unsigned_abs}
 use Rattle.mix_model.specs.declared.summary.Summary.{Summary}
-use Rattle.mix_model.specs.Output.{interleaved}
-use Rattle.scene_model.specs.SceneData.{SceneData}
-use Rattle.wave_write.specs.Samples.{packed}
 
 -- the greatest magnitude of samples, and 0 where there are none
 abbrev pub peak : List ℤ → ℕ
@@ -16,7 +13,3 @@ byte_sum bytes = sum bytes % 2 ^ 32
 -- the samples of a mix, in 24 bits, and the bytes that they are packed in
 abbrev pub summary : List ℤ → List ℕ → Summary
 summary samples bytes = record { peak = peak samples; sum = byte_sum bytes }
-
--- the summary of a scene that was rendered to these frames
-abbrev pub summary_of : SceneData → List (List ℤ) → Summary
-summary_of scene frames = summary (interleaved frames) (packed scene.width (interleaved frames))

@@ -1,6 +1,7 @@
 pub mod Kept
 pub mod Marking
 pub mod NoCycle
+pub mod Ordered
 pub mod PlanStays
 pub mod Reachable
 pub mod Runs

@@ -5,6 +5,7 @@ pub mod Limits
 pub mod Marks
 pub mod Names
 pub mod Opening
+pub mod Order
 pub mod PlanData
 pub mod Plans
 pub mod Reach

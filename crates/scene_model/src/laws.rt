@@ -1,12 +1,17 @@
-ghost use Rattle.std.specs.Prelude.{◌≡◌, ◌<◌, ℕ, fold, length, map};
+ghost use Rattle.std.specs.Prelude.{◌≡◌, ◌<◌, ◌==◌, ℕ, Bool, IsTrue, filter, fold, length, map, nat_lt};
+ghost use Rattle.std.specs.List.{list_all};
+ghost use Rattle.std.specs.List.Sorted.{IsNonDecreasingBy};
+ghost use Rattle.scene_model.specs.declared.edit.EditRow.{EditRow};
+ghost use Rattle.scene_model.specs.declared.order.NumberedEdit.{NumberedEdit};
 ghost use Rattle.scene_model.specs.IsPlan.{TakesEdits, kinds, output_of};
 ghost use Rattle.scene_model.specs.Limits as limits;
 ghost use Rattle.scene_model.specs.Opening.{opening};
+ghost use Rattle.scene_model.specs.Order.{in_order, numbered};
 ghost use Rattle.scene_model.specs.Plans.{after};
 ghost use Rattle.scene_model.specs.Reach.{HasNoCycle};
-ghost use Rattle.scene_model.specs.Times.{plan};
+ghost use Rattle.scene_model.specs.Times.{edits_at, plan};
 
-use crate::edit::Edit;
+use crate::edit::{Edit, EditRow};
 use crate::plan::Plan;
 use crate::scene::Scene;
 
@@ -28,4 +33,16 @@ pub fn edits_keep_kinds_and_outputs(plan: &Plan, edit: &Edit)
 pub fn a_plan_takes_the_edits_of_a_scene(scene: &Scene, edits: &[Edit])
     requires { length edits.now < limits.most_seeks }
     ensures { TakesEdits (length scene.now.nodes) (fold after (opening scene.now) edits.now) }
+{}
+
+/// A law: the edits in order are those of the script, each with the number of its row: as many,
+/// none before one of an earlier frame, and at each frame the same ones, in the order of their rows.
+/// What holds of every row holds of each of them.
+pub fn edits_are_ordered_by_frames(rows: &[EditRow])
+    ensures length { length (in_order rows.now) ≡ length rows.now }
+    ensures numbers { IsTrue (list_all (λ (e : NumberedEdit). nat_lt e.number (length rows.now)) (in_order rows.now)) }
+    ensures sorted { IsNonDecreasingBy (λ (e : NumberedEdit). e.row.at) (in_order rows.now) }
+    ensures frames { (t : ℕ) → filter (λ (e : NumberedEdit). e.row.at == t) (in_order rows.now) ≡ filter (λ (e : NumberedEdit). e.row.at == t) (numbered 0 rows.now) }
+    ensures edits { (t : ℕ) → edits_at (map (λ (e : NumberedEdit). e.row) (in_order rows.now)) t ≡ edits_at rows.now t }
+    ensures kept { (p : EditRow → Bool) → IsTrue (list_all p rows.now) → IsTrue (list_all p (map (λ (e : NumberedEdit). e.row) (in_order rows.now))) }
 {}

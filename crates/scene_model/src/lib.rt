@@ -25,6 +25,7 @@ mod limits;
 mod name;
 mod node;
 mod node_state;
+mod order;
 mod outputs;
 mod plan;
 mod reach;
@@ -37,7 +38,8 @@ pub use bus::Bus;
 pub use bus_row::BusRow;
 pub use edit::{Edit, EditRow};
 pub use laws::{
-    a_plan_takes_the_edits_of_a_scene, edits_keep_kinds_and_outputs, no_plan_has_a_cycle,
+    a_plan_takes_the_edits_of_a_scene, edits_are_ordered_by_frames, edits_keep_kinds_and_outputs,
+    no_plan_has_a_cycle,
 };
 pub use limits::{
     MAX_FILE_BYTES, MAX_GAIN, MAX_LENGTH, MAX_NAME_BYTES, MAX_PLACE, MAX_RATE, MAX_SEEKS, UNIT_GAIN,
@@ -45,6 +47,7 @@ pub use limits::{
 pub use name::{is_file, is_name};
 pub use node::{Node, NodeKind};
 pub use node_state::NodeState;
+pub use order::{NumberedEdit, edits_in_order};
 pub use plan::{Plan, apply};
 pub use reply::Reply;
 pub use resource::Resource;

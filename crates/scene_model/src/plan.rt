@@ -93,7 +93,13 @@ impl Plan {
         reaches(self.buses.as_slice(), from, to)
     }
 
-    fn unwired(alloc: Global, nodes: &[Node]) -> Result<Plan, OutOfMemory>
+    /// A plan of nodes alone, at most 128: each node as its row has it, with no seek counted, and every
+    /// output bus unattached at gain 1.0.
+    ///
+    /// # Errors
+    ///
+    /// Want of memory.
+    pub fn unwired(alloc: Global, nodes: &[Node]) -> Result<Plan, OutOfMemory>
         requires { length nodes.now ≤ 128 }
         ensures { IfOk result (λ p. p ≡ spec.unwired nodes.now) }
     {

@@ -23,11 +23,11 @@ It ends with one of these statuses:
    3  a file could not be read or written
    4  SCENE or a sound file is not there
    5  SCENE or a sound file is too long
+   6  SCENE is refused
    7  a sound file is refused
    8  the text could not be printed; the files are written
-  10  the scene, or its sound file, is of a form that is not built yet
 
-One line says more on standard output. After 2, 4, 5, 7 and 10 no file has changed. README.md and docs/ in the repository say more.
+One line says more on standard output. After 2, 4, 5, 6 and 7 no file has changed. README.md and docs/ in the repository say more.
 ";
 
 const VERSION: &str = "scenetool 0.1.0\n";

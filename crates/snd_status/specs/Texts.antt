@@ -3,35 +3,11 @@ use Rattle.std.specs.Prelude.{ℕ, List, ◌++◌, codes}
 use Rattle.std.specs.Fmt.{decimal}
 use Rattle.wave_read.specs.declared.kind.Kind.{Kind}
 use Rattle.wave_read.specs.declared.kind.Kind.TheVariants.{Pcm, Alaw, Ulaw, Ima}
-use Rattle.wave_read.specs.declared.wave_fault.WaveFault.{WaveFault}
-use Rattle.wave_read.specs.declared.wave_fault.WaveFault.TheVariants.{NotRiff, NotWave, Ds64Missing, ChunkPastEnd, NoFmt, FmtShort, Unsupported, Channels, Rate, Width, ImaAlign, StepIndex, NoData}
+use Rattle.snd_status.specs.FaultTexts.{scene_fault_text, wave_fault_text}
 use Rattle.snd_status.specs.declared.mix_report.MixReport.{MixReport}
 use Rattle.snd_status.specs.declared.wave_report.WaveReport.{WaveReport}
-use Rattle.snd_status.specs.declared.status.Part.{Part}
-use Rattle.snd_status.specs.declared.status.Part.TheVariants.{Script, Resource}
 use Rattle.snd_status.specs.declared.status.Status.{Status}
-use Rattle.snd_status.specs.declared.status.Status.TheVariants.{Done, OutOfMemory, Usage, DepotFault, Absent, TooLong, File, TextFault, Unbuilt}
-
--- the name of a fault and then its fields, each after a space
-abbrev pub fault_text : WaveFault → List ℕ
-fault_text NotRiff = codes "NotRiff"
-fault_text NotWave = codes "NotWave"
-fault_text Ds64Missing = codes "Ds64Missing"
-fault_text (ChunkPastEnd at) = codes "ChunkPastEnd " ++ decimal at
-fault_text NoFmt = codes "NoFmt"
-fault_text (FmtShort len) = codes "FmtShort " ++ decimal len
-fault_text (Unsupported tag) = codes "Unsupported " ++ decimal tag
-fault_text (Channels n) = codes "Channels " ++ decimal n
-fault_text (Rate n) = codes "Rate " ++ decimal n
-fault_text (Width bits align) = codes "Width " ++ decimal bits ++ codes " " ++ decimal align
-fault_text (ImaAlign align) = codes "ImaAlign " ++ decimal align
-fault_text (StepIndex block channel found) =
-    codes "StepIndex " ++ decimal block ++ codes " " ++ decimal channel ++ codes " " ++ decimal found
-fault_text NoData = codes "NoData"
-
-abbrev pub part_text : Part → List ℕ
-part_text Script = codes "not built: script"
-part_text Resource = codes "not built: resource"
+use Rattle.snd_status.specs.declared.status.Status.TheVariants.{Done, OutOfMemory, Usage, DepotFault, Absent, TooLong, Script, File, TextFault}
 
 -- the text of a status. No command prints that of `Done` or `TextFault`
 abbrev pub status_text : Status → List ℕ
@@ -41,9 +17,9 @@ status_text (Usage word) = codes "usage: word " ++ decimal word
 status_text DepotFault = codes "depot failed"
 status_text (Absent name) = codes "absent: " ++ name
 status_text (TooLong name limit) = codes "too long: " ++ name ++ codes " limit " ++ decimal limit
-status_text (File resource fault) = codes "file: " ++ decimal resource ++ codes ": " ++ fault_text fault
+status_text (Script fault) = codes "script: " ++ scene_fault_text fault
+status_text (File resource fault) = codes "file: " ++ decimal resource ++ codes ": " ++ wave_fault_text fault
 status_text TextFault = codes "text failed"
-status_text (Unbuilt part) = part_text part
 
 abbrev pub kind_text : Kind → List ℕ
 kind_text Pcm = codes "pcm"

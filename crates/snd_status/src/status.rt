@@ -1,7 +1,9 @@
 ghost use Rattle.std.specs.Prelude.{◌≡◌};
 
-use crate::fault_text::FaultText;
+use crate::scene_fault_text::SceneFaultText;
+use crate::wave_fault_text::WaveFaultText;
 use plain_data::Text;
+use scene_script::SceneFault;
 use std::fmt;
 use wave_read::WaveFault;
 
@@ -20,21 +22,12 @@ pub enum Status {
     Absent { name: Text },
     /// The file of this name, or with it the sum of all sound files, has more bytes than this limit.
     TooLong { name: Text, limit: u64 },
+    /// The script is refused.
+    Script(SceneFault),
     /// The sound file of the resource of this number, counted from 0, is refused.
     File { resource: u32, fault: WaveFault },
     /// The text that the command prints couldn't be written. All files are.
     TextFault,
-    /// What was asked for isn't built yet.
-    Unbuilt { part: Part },
-}
-
-/// What isn't built yet.
-#[derive(Clone, Copy, Debug, PartialEq, Eq)]
-pub enum Part {
-    /// A scene of that form.
-    Script,
-    /// A sound file of that form.
-    Resource,
 }
 
 impl Status {
@@ -51,9 +44,9 @@ impl Status {
             Status::DepotFault => 3,
             Status::Absent { .. } => 4,
             Status::TooLong { .. } => 5,
+            Status::Script(_) => 6,
             Status::File { .. } => 7,
             Status::TextFault => 8,
-            Status::Unbuilt { .. } => 10,
         }
     }
 }
@@ -75,14 +68,11 @@ impl fmt::Display for Status {
             Status::TooLong { name, limit } => {
                 write!(f, "too long: {} limit {limit}", name.as_str())
             }
+            Status::Script(fault) => write!(f, "script: {}", SceneFaultText::new(*fault)),
             Status::File { resource, fault } => {
-                write!(f, "file: {resource}: {}", FaultText::new(*fault))
+                write!(f, "file: {resource}: {}", WaveFaultText::new(*fault))
             }
             Status::TextFault => f.write_str("text failed"),
-            Status::Unbuilt { part: Part::Script } => f.write_str("not built: script"),
-            Status::Unbuilt {
-                part: Part::Resource,
-            } => f.write_str("not built: resource"),
         }
     }
 }

@@ -7,10 +7,14 @@ mod fakes;
 #[cfg(test)]
 mod infos;
 #[cfg(test)]
+mod limits;
+#[cfg(test)]
 mod mixes;
 #[cfg(test)]
 mod programs;
 #[cfg(test)]
 mod real_edge;
 #[cfg(test)]
-mod single_scripts;
+mod scenes;
+#[cfg(test)]
+mod sounds;

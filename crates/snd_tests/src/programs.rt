@@ -1,10 +1,12 @@
 //! Runs `scenetool`'s commands over a store in memory.
-ghost use Rattle.std.specs.Prelude.{◌≡◌, None};
+ghost use Rattle.std.specs.Prelude.{◌≡◌, ◌≤◌, ◌<◌, ◌^◌, None, length};
+ghost use Rattle.snd_io.specs.SureFiles.{sure_writing};
 
 use plain_data::OutOfMemory;
-use snd_io::{Depot, MemSink};
+use snd_io::{Depot, MemSink, SureDepot};
 use snd_tools::{Status, run_tool};
 use std::alloc::{AllocError, Global};
+use wave_write::header;
 
 /// A script of one sound, `player`, that plays `tone.wav`.
 pub fn script(
@@ -72,6 +74,58 @@ pub fn ends<D: Depot>(
 {
     let (status, printed) = run(alloc, depot, words)?;
     Ok(status.code() == code && printed.as_slice() == text.as_bytes())
+}
+
+/// The bytes of a WAVE file of 16 bits: the 44-byte header and these samples.
+pub fn sound(alloc: Global, channels: u8, rate: u32, samples: &[i16]) -> Result<Vec<u8>, AllocError>
+    requires channels { channels ≤ 2 }
+    requires some { 1 ≤ channels }
+    requires rate { rate ≤ 768000 }
+    requires few { length samples.now < 2 ^ 24 }
+{
+    let frames = samples.len() / usize::from(channels);
+    let mut bytes = Vec::from_slice(alloc, &header(channels, rate, 16, frames as u32))?;
+    for sample in samples {
+        bytes.extend_from_slice(&sample.to_le_bytes())?;
+    }
+    Ok(bytes)
+}
+
+/// OUT of `mix` of a script over files with these names, and what it printed.
+pub fn mixed(
+    alloc: Global,
+    script: &str,
+    files: &[(&str, &[u8])],
+) -> Result<(Vec<u8>, Vec<u8>), OutOfMemory> {
+    let mut depot = SureDepot::new(alloc)?;
+    depot.set(alloc, "scene.toml", script.as_bytes())?;
+    put_files(alloc, &mut depot, files)?;
+    let (_, text) = run(alloc, &mut depot, &["mix", "scene.toml", "out.wav"])?;
+    let out = match depot.file("out.wav") {
+        Some(bytes) => Vec::from_slice(alloc, bytes)?,
+        None => Vec::new(alloc),
+    };
+    Ok((out, text))
+}
+
+/// Sets files.
+pub fn put_files(
+    alloc: Global,
+    depot: &mut SureDepot,
+    files: &[(&str, &[u8])],
+) -> Result<(), OutOfMemory>
+    requires { sure_writing depot.old ≡ None }
+    ensures { sure_writing depot.new ≡ None }
+{
+    for (name, bytes) in files {
+        depot.set(alloc, name, bytes)?;
+    }
+    Ok(())
+}
+
+/// The bytes behind the header of a WAVE file.
+pub fn data_of(file: &[u8]) -> &[u8] {
+    if file.len() < 44 { &[] } else { &file[44..] }
 }
 
 /// Whether a file is there and has these bytes.

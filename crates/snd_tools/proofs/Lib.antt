@@ -1,6 +1,3 @@
-pub mod Documents
+pub mod FileSets
 pub mod Lines
 pub mod Outcomes
-pub mod Rows
-pub mod Samples
-pub mod FileSets

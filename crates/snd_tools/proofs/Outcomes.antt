@@ -4,7 +4,7 @@ use Rattle.std.specs.Option.{option_map}
 use Rattle.snd_io.specs.Answers.{IsPrefix, IsPrefix-all}
 use Rattle.snd_io.specs.Files.{Files, Told, put_file}
 use Rattle.snd_status.specs.declared.status.Status.{Status}
-use Rattle.snd_status.specs.declared.status.Status.TheVariants.{Done, OutOfMemory, Usage, DepotFault, Absent, TooLong, File, TextFault, Unbuilt}
+use Rattle.snd_status.specs.declared.status.Status.TheVariants.{Done, OutOfMemory, Usage, DepotFault, Absent, TooLong, Script, File, TextFault}
 use Rattle.snd_tools.specs.Meets.{put_all, IsWrittenInPart, IsLeft, IsWritten, Stops, Works, IsTold, MayTell, Meets}
 use Rattle.snd_tools.specs.Outcome.{Output, Outcome, Report, status_line}
 use Rattle.snd_tools.specs.Reading.{◌>>=◌, Ends, GivesBy, is_depot_fault}
@@ -30,7 +30,7 @@ ends-then (Absent name) said next ends = ap (λ r. r >>= next) ends
 ends-then (TooLong name limit) said next ends = ap (λ r. r >>= next) ends
 ends-then (File resource fault) said next ends = ap (λ r. r >>= next) ends
 ends-then TextFault said next ends = absurd ends
-ends-then (Unbuilt part) said next ends = ap (λ r. r >>= next) ends
+ends-then (Script fault) said next ends = ap (λ r. r >>= next) ends
 
 -- a part that gave what is said, and the next one by it
 pub gives-then : {A B C D : Type 0} (view : C → A) (seen : D → B) (x : C) (answer : Result D Status) (said : Result A Status) (next : A → Result B Status)
@@ -57,7 +57,7 @@ stops (Absent name) said next files rose ends cause = (ap (λ r. r >>= next) end
 stops (TooLong name limit) said next files rose ends cause = (ap (λ r. r >>= next) ends, refl)
 stops (File resource fault) said next files rose ends cause = (ap (λ r. r >>= next) ends, refl)
 stops TextFault said next files rose ends cause = absurd ends
-stops (Unbuilt part) said next files rose ends cause = (ap (λ r. r >>= next) ends, refl)
+stops (Script fault) said next files rose ends cause = (ap (λ r. r >>= next) ends, refl)
 
 -- ---- a command that writes one file
 
@@ -98,7 +98,7 @@ module _ (o : Outcome) (before after : Files) (added : List ℕ) (rose cut : Typ
   told-status (TooLong name limit) stop told = record { stops = stop; told = told }
   told-status (File resource fault) stop told = record { stops = stop; told = told }
   told-status TextFault stop told = absurd stop
-  told-status (Unbuilt part) stop told = record { stops = stop; told = told }
+  told-status (Script fault) stop told = record { stops = stop; told = told }
 
   stop-left : (status : Status) → Stops o before after rose status → IsLeft o before after
   stop-left Done stop = absurd stop
@@ -109,7 +109,7 @@ module _ (o : Outcome) (before after : Files) (added : List ℕ) (rose cut : Typ
   stop-left (TooLong name limit) stop = refused (TooLong name limit) stop.0 stop.1
   stop-left (File resource fault) stop = refused (File resource fault) stop.0 stop.1
   stop-left TextFault stop = absurd stop
-  stop-left (Unbuilt part) stop = refused (Unbuilt part) stop.0 stop.1
+  stop-left (Script fault) stop = refused (Script fault) stop.0 stop.1
 
   stop-may_tell : (status : Status) → Stops o before after rose status → IsPrefix added (status_line status) → MayTell o before after added rose
   stop-may_tell Done stop part = absurd stop
@@ -120,7 +120,7 @@ module _ (o : Outcome) (before after : Files) (added : List ℕ) (rose cut : Typ
   stop-may_tell (TooLong name limit) stop part = inr (inl (TooLong name limit, stop.0, part))
   stop-may_tell (File resource fault) stop part = inr (inl (File resource fault, stop.0, part))
   stop-may_tell TextFault stop part = absurd stop
-  stop-may_tell (Unbuilt part) stop prefix = inr (inl (Unbuilt part, stop.0, prefix))
+  stop-may_tell (Script fault) stop prefix = inr (inl (Script fault, stop.0, prefix))
 
   told-or : (status answer : Status) → Stops o before after rose status → TellsOr status added cut answer → Meets o before after added rose cut answer
   told-or status answer stop (inl (same, told)) = subst (λ s. Meets o before after added rose cut s) (sym same) (told-status status stop told)
@@ -139,7 +139,7 @@ module _ (o : Outcome) (before after : Files) (added : List ℕ) (rose cut : Typ
   told-done text report (TooLong name limit) w is told = absurd told
   told-done text report (File resource fault) w is told = absurd told
   told-done text report TextFault w is told = (told.0, (report, w, subst (λ line. IsPrefix added line) is told.1))
-  told-done text report (Unbuilt part) w is told = absurd told
+  told-done text report (Script fault) w is told = absurd told
 
   pub meets : (came_to : Result (String Global) Status) (answer : Status) → Works o before after rose came_to → Tells came_to added cut answer → Meets o before after added rose cut answer
   meets (Ok text) answer (report, w, is) told = told-done (string_bytes text) report answer w is told

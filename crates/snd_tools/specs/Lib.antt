@@ -4,7 +4,4 @@ pub mod Meets
 pub mod Outcome
 pub mod Reading
 pub mod Rendered
-pub mod ScriptFields
-pub mod SingleScript
-pub mod SingleSound
 pub mod Telling

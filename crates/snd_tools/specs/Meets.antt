@@ -5,7 +5,7 @@ use Rattle.std.specs.Prelude.{String}
 use Rattle.snd_io.specs.Answers.{IsPrefix}
 use Rattle.snd_io.specs.Files.{Files, put_file}
 use Rattle.snd_status.specs.declared.status.Status.{Status}
-use Rattle.snd_status.specs.declared.status.Status.TheVariants.{Done, OutOfMemory, Usage, DepotFault, Absent, TooLong, File, TextFault, Unbuilt}
+use Rattle.snd_status.specs.declared.status.Status.TheVariants.{Done, OutOfMemory, Usage, DepotFault, Absent, TooLong, Script, File, TextFault}
 use Rattle.snd_tools.specs.Outcome.{Output, Outcome, Report, status_line}
 
 -- the files with each output set, and every other name as before
@@ -40,9 +40,9 @@ Stops outcome before after rose (Usage word) = (outcome ≡ Err (Usage word)) ×
 Stops outcome before after rose DepotFault = rose × IsLeft outcome before after
 Stops outcome before after rose (Absent name) = (outcome ≡ Err (Absent name)) × (after ≡ before)
 Stops outcome before after rose (TooLong name limit) = (outcome ≡ Err (TooLong name limit)) × (after ≡ before)
+Stops outcome before after rose (Script fault) = (outcome ≡ Err (Script fault)) × (after ≡ before)
 Stops outcome before after rose (File resource fault) = (outcome ≡ Err (File resource fault)) × (after ≡ before)
 Stops outcome before after rose TextFault = ⊥
-Stops outcome before after rose (Unbuilt part) = (outcome ≡ Err (Unbuilt part)) × (after ≡ before)
 
 abbrev pub Works : Outcome → Files → Files → Type 0 → Result (String Global) Status → Type 0
 Works outcome before after rose (Ok text) = (report : Report) × IsWritten outcome before after report × (string_bytes text ≡ report.line)
@@ -76,5 +76,5 @@ Meets outcome before after added rose cut (Usage word) = TellsStatus outcome bef
 Meets outcome before after added rose cut DepotFault = TellsStatus outcome before after added rose cut DepotFault
 Meets outcome before after added rose cut (Absent name) = TellsStatus outcome before after added rose cut (Absent name)
 Meets outcome before after added rose cut (TooLong name limit) = TellsStatus outcome before after added rose cut (TooLong name limit)
+Meets outcome before after added rose cut (Script fault) = TellsStatus outcome before after added rose cut (Script fault)
 Meets outcome before after added rose cut (File resource fault) = TellsStatus outcome before after added rose cut (File resource fault)
-Meets outcome before after added rose cut (Unbuilt part) = TellsStatus outcome before after added rose cut (Unbuilt part)

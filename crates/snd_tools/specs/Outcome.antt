@@ -6,7 +6,8 @@ use Rattle.wave_read.specs.declared.wave.Wave.{Wave}
 use Rattle.clip_decode.specs.Pages.{page_count}
 use Rattle.scene_model.specs.SceneData.{SceneData}
 use Rattle.mix_model.specs.Output.{wav}
-use Rattle.mix_model.specs.Summary.{summary_of}
+use Rattle.mix_model.specs.Mix.{mix}
+use Rattle.mix_model.specs.Rendering.{summary_of}
 use Rattle.snd_io.specs.Files.{Files}
 use Rattle.snd_status.specs.declared.mix_report.MixReport.{MixReport}
 use Rattle.snd_status.specs.declared.status.Status.{Status}
@@ -14,7 +15,6 @@ use Rattle.snd_status.specs.declared.status.Status.TheVariants.{Usage}
 use Rattle.snd_status.specs.Texts.{mix_text, wave_text, status_text}
 use Rattle.snd_tools.specs.Commands.{Command, Mix, Info, command}
 use Rattle.snd_tools.specs.Reading.{◌>>=◌, file_read, most_sound_bytes, scene_read, sounds_read, surveyed}
-use Rattle.snd_tools.specs.SingleSound.{single}
 
 -- a file that is to be written
 pub record Output : Type 0 where
@@ -66,8 +66,8 @@ rendering scene frames = record { file = wav scene frames; line = line (mix_text
 abbrev pub rendered : Files → List ℕ → Result Rendering Status
 rendered files name = do
   scene ← scene_read name (get files name)
-  sounds ← sounds_read files scene
-  Ok (rendering scene (single scene sounds))
+  sounds ← sounds_read files scene.resources
+  Ok (rendering scene (mix scene sounds))
 
 -- the rendering is the file of that name
 abbrev pub rendered_to : List ℕ → Rendering → Report

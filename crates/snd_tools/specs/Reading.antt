@@ -2,17 +2,15 @@
 use Rattle.std.specs.Prelude.{◌≡◌, ℕ, ◌+◌, nat_lt, Bool, true, false, ◌&&◌, ◌==◌, List, [], ◌∷◌, length, Option, Some, None, Result, Ok, Err, if◌then◌else◌}
 use Rattle.std.specs.FinMap.{get}
 use Rattle.wave_read.specs.Wave.{wave}
-use Rattle.wave_read.specs.declared.kind.Kind.{Kind}
-use Rattle.wave_read.specs.declared.kind.Kind.TheVariants.{Pcm, Alaw, Ulaw, Ima}
 use Rattle.wave_read.specs.declared.wave.Wave.{Wave}
 use Rattle.wave_read.specs.declared.wave_fault.WaveFault.{WaveFault}
 use Rattle.scene_model.specs.declared.resource.Resource.{Resource}
 use Rattle.scene_model.specs.SceneData.{SceneData}
 use Rattle.snd_io.specs.Files.{Files}
-use Rattle.snd_status.specs.declared.status.Part.TheVariants.{Script, Resource as SoundFile}
 use Rattle.snd_status.specs.declared.status.Status.{Status}
-use Rattle.snd_status.specs.declared.status.Status.TheVariants.{Done, OutOfMemory, Usage, DepotFault, Absent, TooLong, File, TextFault, Unbuilt}
-use Rattle.snd_tools.specs.SingleScript.{single_script}
+use Rattle.snd_status.specs.declared.status.Status.TheVariants.{Done, OutOfMemory, Usage, DepotFault, Absent, TooLong, Script, File, TextFault}
+use Rattle.scene_script.specs.declared.fault.SceneFault.{SceneFault}
+use Rattle.scene_script.specs.Script.{scene}
 
 -- 4 MiB
 abbrev pub most_script_bytes : ℕ
@@ -32,10 +30,10 @@ abbrev pub ◌>>=◌ : {A B : Type 0} → Result A Status → (A → Result B St
 (Ok x) >>= f = f x
 (Err status) >>= f = Err status
 
--- the scene of a script, where the form of the script is built
-abbrev pub scene_or_unbuilt : Option SceneData → Result SceneData Status
-scene_or_unbuilt None = Err (Unbuilt Script)
-scene_or_unbuilt (Some scene) = Ok scene
+-- the scene of a script, or the script's first fault
+abbrev pub scene_or_fault : Result SceneData SceneFault → Result SceneData Status
+scene_or_fault (Ok s) = Ok s
+scene_or_fault (Err fault) = Err (Script fault)
 
 -- a file of that name, which has these bytes if it is there: absent, or longer than the limit, or its bytes
 abbrev pub file_read : ℕ → List ℕ → Option (List ℕ) → Result (List ℕ) Status
@@ -44,7 +42,7 @@ file_read limit name (Some bytes) = if nat_lt limit (length bytes) then Err (Too
 
 -- SCENE
 abbrev pub script_read : List ℕ → Result SceneData Status
-script_read text = scene_or_unbuilt (single_script text)
+script_read text = scene_or_fault (scene text)
 
 abbrev pub scene_read : List ℕ → Option (List ℕ) → Result SceneData Status
 scene_read name file = file_read most_script_bytes name file >>= script_read
@@ -63,41 +61,28 @@ file_or_fault number (Err fault) = Err (File number fault)
 abbrev pub surveyed : ℕ → List ℕ → Result Wave Status
 surveyed number bytes = file_or_fault number (wave bytes)
 
-abbrev pub is_pcm : Kind → Bool
-is_pcm Pcm = true
-is_pcm Alaw = false
-is_pcm Ulaw = false
-is_pcm Ima = false
-
--- a sound that can be played so far: PCM at the scene's rate and channels
-abbrev pub is_built : ℕ → ℕ → Wave → Bool
-is_built rate channels w = is_pcm w.kind && w.rate == rate && w.channels == channels
-
-abbrev pub built_or_not : ℕ → ℕ → List ℕ → Wave → Result (List ℕ) Status
-built_or_not rate channels bytes w = if is_built rate channels w then Ok bytes else Err (Unbuilt SoundFile)
-
 -- The sound file of a resource, after files of so many bytes in all: its absence, its own length, the sum of the files, the
 -- fault of the file.
-abbrev pub sound_of : ℕ → ℕ → ℕ → ℕ → List ℕ → List ℕ → Result (List ℕ) Status
-sound_of rate channels number total name file = do
+abbrev pub sound_of : ℕ → ℕ → List ℕ → List ℕ → Result (List ℕ) Status
+sound_of number total name file = do
   bytes ← within_sum total name file
   w ← surveyed number bytes
-  built_or_not rate channels bytes w
+  Ok bytes
 
-abbrev pub sound_read : ℕ → ℕ → ℕ → ℕ → List ℕ → Option (List ℕ) → Result (List ℕ) Status
-sound_read rate channels number total name file = file_read most_sound_bytes name file >>= sound_of rate channels number total name
+abbrev pub sound_read : ℕ → ℕ → List ℕ → Option (List ℕ) → Result (List ℕ) Status
+sound_read number total name file = file_read most_sound_bytes name file >>= sound_of number total name
 
 -- The sound files of resources in their order, where the first has that number and the files before it have so many bytes
 -- in all. A file that two resources name counts twice.
-abbrev pub sounds_from : ℕ → ℕ → Files → ℕ → ℕ → List Resource → Result (List (List ℕ)) Status
-sounds_from rate channels files number total [] = Ok []
-sounds_from rate channels files number total (resource ∷ more) = do
-  bytes ← sound_read rate channels number total resource.file (get files resource.file)
-  sounds ← sounds_from rate channels files (number + 1) (total + length bytes) more
+abbrev pub sounds_from : Files → ℕ → ℕ → List Resource → Result (List (List ℕ)) Status
+sounds_from files number total [] = Ok []
+sounds_from files number total (resource ∷ more) = do
+  bytes ← sound_read number total resource.file (get files resource.file)
+  sounds ← sounds_from files (number + 1) (total + length bytes) more
   Ok (bytes ∷ sounds)
 
-abbrev pub sounds_read : Files → SceneData → Result (List (List ℕ)) Status
-sounds_read files scene = sounds_from scene.rate scene.channels files 0 0 scene.resources
+abbrev pub sounds_read : Files → List Resource → Result (List (List ℕ)) Status
+sounds_read files resources = sounds_from files 0 0 resources
 
 -- a part of the work ended as is said, or the depot failed, or there was no memory
 abbrev pub Ends : {A : Type 0} → Status → Result A Status → Type 0
@@ -107,9 +92,9 @@ Ends (Usage word) said = said ≡ Err (Usage word)
 Ends DepotFault said = Unit {0}
 Ends (Absent name) said = said ≡ Err (Absent name)
 Ends (TooLong name limit) said = said ≡ Err (TooLong name limit)
+Ends (Script fault) said = said ≡ Err (Script fault)
 Ends (File resource fault) said = said ≡ Err (File resource fault)
 Ends TextFault said = ⊥
-Ends (Unbuilt part) said = said ≡ Err (Unbuilt part)
 
 -- a part of the work gave what is said, as `view` sees it, or ended
 abbrev pub GivesBy : {A B : Type 0} → (A → B) → Result A Status → Result B Status → Type 0
@@ -124,9 +109,9 @@ is_depot_fault OutOfMemory = false
 is_depot_fault (Usage word) = false
 is_depot_fault (Absent name) = false
 is_depot_fault (TooLong name limit) = false
+is_depot_fault (Script fault) = false
 is_depot_fault (File resource fault) = false
 is_depot_fault TextFault = false
-is_depot_fault (Unbuilt part) = false
 
 abbrev pub stopped_by_depot : {A : Type 0} → Result A Status → Bool
 stopped_by_depot (Ok x) = false
@@ -141,8 +126,8 @@ can_stop_with (Usage word) = true
 can_stop_with DepotFault = true
 can_stop_with (Absent name) = true
 can_stop_with (TooLong name limit) = true
+can_stop_with (Script fault) = true
 can_stop_with (File resource fault) = true
-can_stop_with (Unbuilt part) = true
 
 abbrev pub can_stop : {A : Type 0} → Result A Status → Bool
 can_stop (Ok x) = true

@@ -3,7 +3,7 @@ use Rattle.std.specs.Prelude.{◌≡◌, ◌⊎◌, ℕ, List, Bool, true, false
 use Rattle.std.specs.Global.{Global}
 use Rattle.snd_io.specs.Answers.{IsPrefix}
 use Rattle.snd_status.specs.declared.status.Status.{Status}
-use Rattle.snd_status.specs.declared.status.Status.TheVariants.{Done, OutOfMemory, Usage, DepotFault, Absent, TooLong, File, TextFault, Unbuilt}
+use Rattle.snd_status.specs.declared.status.Status.TheVariants.{Done, OutOfMemory, Usage, DepotFault, Absent, TooLong, Script, File, TextFault}
 use Rattle.snd_tools.specs.Meets.{IsTold}
 use Rattle.snd_tools.specs.Outcome.{status_line}
 
@@ -15,8 +15,8 @@ is_text_fault (Usage word) = false
 is_text_fault DepotFault = false
 is_text_fault (Absent name) = false
 is_text_fault (TooLong name limit) = false
+is_text_fault (Script fault) = false
 is_text_fault (File resource fault) = false
-is_text_fault (Unbuilt part) = false
 
 -- the line of a report that is done: `cut` says that the sink's count of faults rose
 abbrev pub TellsDone : List ℕ → List ℕ → Type 0 → Status → Type 0

@@ -1,18 +1,17 @@
-ghost use Rattle.std.specs.Prelude.{◌≡◌, true, ◌+◌, ◌≤◌, false, None, Some, IfSome, IfOk, IsTrue, map, length, All};
+ghost use Rattle.std.specs.Prelude.{◌≡◌, true, ◌+◌, ◌≤◌, false, None, Some, IfSome, IfOk, map, length, All};
 ghost use Rattle.std.specs.FinMap.{get};
 ghost use Rattle.snd_io.specs.Faults.{CountsFaults};
 ghost use Rattle.snd_tools.specs.Reading as spec;
 ghost use Rattle.snd_tools.specs.Reading.{Ends, GivesBy, stopped_by_depot, can_stop};
 
-use crate::single_script::read_single;
 use clip_decode::{Clip, ClipError};
 use plain_data::Text;
 use scene_model::{Resource, Scene};
+use scene_script::{ScriptError, read_scene as read_script};
 use snd_io::{Depot, Fetch};
-use snd_status::{Part, Status};
+use snd_status::Status;
 use std::alloc::Global;
 use std::marker::Model;
-use wave_read::{Kind, Wave};
 
 /// The most bytes of a script.
 const MAX_SCRIPT_BYTES: u64 = 4_194_304;
@@ -73,10 +72,10 @@ fn scene_of(alloc: Global, text: &[u8]) -> Result<Scene, Status>
     ensures no_fault { stopped_by_depot result ≡ false }
     ensures stop { can_stop result ≡ true }
 {
-    match read_single(alloc, text) {
-        Ok(Some(scene)) => Ok(scene),
-        Ok(None) => Err(Status::Unbuilt { part: Part::Script }),
-        Err(_) => Err(Status::OutOfMemory),
+    match read_script(alloc, text) {
+        Ok(scene) => Ok(scene),
+        Err(ScriptError::Fault(fault)) => Err(Status::Script(fault)),
+        Err(ScriptError::OutOfMemory) => Err(Status::OutOfMemory),
     }
 }
 
@@ -84,14 +83,13 @@ fn scene_of(alloc: Global, text: &[u8]) -> Result<Scene, Status>
 pub(crate) fn read_sounds<D: Depot>(
     alloc: Global,
     depot: &mut D,
-    rate: u32,
-    channels: u8,
     resources: &[Resource],
 ) -> Result<Vec<Clip>, Status>
     requires closed { D.writing depot.old ≡ None }
     requires few { length resources.now ≤ 64 }
-    ensures told { IfSome (D.files depot.old) (λ files. GivesBy (λ clips. map (λ clip. clip.bytes) clips.items) result (spec.sounds_from rate channels files 0 0 resources.now)) }
-    ensures built { IfOk result (λ clips. All (λ clip. IsTrue (spec.is_built rate channels clip.wave)) clips.items) }
+    ensures told { IfSome (D.files depot.old) (λ files. GivesBy (λ clips. map (λ clip. clip.bytes) clips.items) result (spec.sounds_from files 0 0 resources.now)) }
+    ensures count { IfOk result (λ clips. length clips.items ≡ length resources.now) }
+    ensures sizes { IfOk result (λ clips. All (λ clip. length clip.bytes ≤ 67108864) clips.items) }
     ensures files { D.files depot.new ≡ D.files depot.old }
     ensures closed { D.writing depot.new ≡ None }
     ensures cause { CountsFaults (D.faults depot.old) (D.faults depot.new) (stopped_by_depot result) }
@@ -101,7 +99,7 @@ pub(crate) fn read_sounds<D: Depot>(
     let mut total = 0;
     for (number, resource) in resources.iter().enumerate() {
         let file = resource.file.as_str();
-        match read_sound(alloc, depot, rate, channels, number as u32, total, file) {
+        match read_sound(alloc, depot, number as u32, total, file) {
             Ok(clip) => {
                 total += clip.bytes().len() as u64;
                 if clips.push(clip).is_err() {
@@ -119,16 +117,14 @@ pub(crate) fn read_sounds<D: Depot>(
 fn read_sound<D: Depot>(
     alloc: Global,
     depot: &mut D,
-    rate: u32,
-    channels: u8,
     number: u32,
     total: u64,
     name: &str,
 ) -> Result<Clip, Status>
     requires closed { D.writing depot.old ≡ None }
     requires total { total ≤ 134217728 }
-    ensures told { IfSome (D.files depot.old) (λ files. GivesBy (λ clip. clip.bytes) result (spec.sound_read rate channels number total name.now (get files name.now))) }
-    ensures built { IfOk result (λ clip. IsTrue (spec.is_built rate channels clip.wave)) }
+    ensures told { IfSome (D.files depot.old) (λ files. GivesBy (λ clip. clip.bytes) result (spec.sound_read number total name.now (get files name.now))) }
+    ensures size { IfOk result (λ clip. length clip.bytes ≤ 67108864) }
     ensures sum { IfOk result (λ clip. total + length clip.bytes ≤ 134217728) }
     ensures files { D.files depot.new ≡ D.files depot.old }
     ensures closed { D.writing depot.new ≡ None }
@@ -136,7 +132,7 @@ fn read_sound<D: Depot>(
     ensures stop { can_stop result ≡ true }
 {
     match fetch_file(alloc, depot, name, MAX_SOUND_BYTES) {
-        Ok(bytes) => clip_of(alloc, rate, channels, number, total, name, bytes),
+        Ok(bytes) => clip_of(alloc, number, total, name, bytes),
         Err(status) => Err(status),
     }
 }
@@ -144,8 +140,6 @@ fn read_sound<D: Depot>(
 /// The clip of a sound file, or its refusal.
 fn clip_of(
     alloc: Global,
-    rate: u32,
-    channels: u8,
     number: u32,
     total: u64,
     name: &str,
@@ -153,8 +147,8 @@ fn clip_of(
 ) -> Result<Clip, Status>
     requires total { total ≤ 134217728 }
     requires length { length bytes.items ≤ 67108864 }
-    ensures value { GivesBy (λ clip. clip.bytes) result (spec.sound_of rate channels number total name.now bytes.items) }
-    ensures built { IfOk result (λ clip. IsTrue (spec.is_built rate channels clip.wave)) }
+    ensures value { GivesBy (λ clip. clip.bytes) result (spec.sound_of number total name.now bytes.items) }
+    ensures size { IfOk result (λ clip. length clip.bytes ≤ 67108864) }
     ensures sum { IfOk result (λ clip. total + length clip.bytes ≤ 134217728) }
     ensures no_fault { stopped_by_depot result ≡ false }
     ensures stop { can_stop result ≡ true }
@@ -163,23 +157,13 @@ fn clip_of(
         return Err(too_long(alloc, name, MAX_SOUNDS_BYTES));
     }
     match Clip::new(alloc, bytes) {
-        Ok(clip) if is_built(rate, channels, clip.wave()) => Ok(clip),
-        Ok(_) => Err(Status::Unbuilt {
-            part: Part::Resource,
-        }),
+        Ok(clip) => Ok(clip),
         Err(ClipError::Fault(fault)) => Err(Status::File {
             resource: number,
             fault,
         }),
         Err(ClipError::OutOfMemory) => Err(Status::OutOfMemory),
     }
-}
-
-/// Whether a sound can be played so far: PCM at the scene's rate and channels.
-fn is_built(rate: u32, channels: u8, wave: &Wave) -> bool
-    ensures { result ≡ spec.is_built rate channels wave.now }
-{
-    matches!(wave.kind, Kind::Pcm) && wave.rate == rate && wave.channels == channels
 }
 
 /// The refusal of a name that isn't there.

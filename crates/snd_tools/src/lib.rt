@@ -8,15 +8,12 @@ mod fetching;
 mod info;
 mod mix;
 mod rendering;
-mod script_fields;
-mod single_script;
-mod single_sound;
 mod telling;
 mod text_out;
 mod tool;
 mod writing;
 
 pub use disk_depot::DiskDepot;
-pub use snd_status::{Part, Status};
+pub use snd_status::Status;
 pub use text_out::TextOut;
 pub use tool::run_tool;

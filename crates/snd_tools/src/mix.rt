@@ -32,7 +32,7 @@ pub(crate) fn mix<D: Depot>(
         Ok(rendering) => rendering,
         Err(status) => return Err(status),
     };
-    match write_file(alloc, depot, out, &rendering.file) {
+    match write_file(alloc, depot, out, rendering.file.bytes()) {
         Put::Done => Ok(rendering.line),
         Put::Failed => Err(Status::DepotFault),
         Put::OutOfMemory => Err(Status::OutOfMemory),
@@ -52,13 +52,7 @@ fn prepare<D: Depot>(alloc: Global, depot: &mut D, scene: &str) -> Result<Render
         Ok(scene) => scene,
         Err(status) => return Err(status),
     };
-    let clips = match read_sounds(
-        alloc,
-        depot,
-        scene.rate,
-        scene.channels,
-        scene.resources.as_slice(),
-    ) {
+    let clips = match read_sounds(alloc, depot, scene.resources.as_slice()) {
         Ok(clips) => clips,
         Err(status) => return Err(status),
     };

@@ -1,5 +1,5 @@
-use Rattle.std.proofs.Common.{◌≡◌, ◌≤◌, ◌++◌, None, Ok, IfSome, All, map, drop, IsTrue}
-use Rattle.snd_tools.specs.Reading.{◌>>=◌, sounds_from, is_built}
+use Rattle.std.proofs.Common.{◌≡◌, ◌≤◌, ◌++◌, None, Ok, IfSome, All, map, drop, length}
+use Rattle.snd_tools.specs.Reading.{◌>>=◌, sounds_from}
 use Rattle.snd_tools.proofs.fetching.read_sounds.Given as goal
 
 abbrev pub invariant-loop-number : goal.invariant-loop-number
@@ -8,7 +8,8 @@ invariant-loop-number g l =
     × (g.D.Depot.faults l.fn.depot ≤ g.D.Depot.faults l.depot)
     × (g.D.Depot.files l.depot ≡ g.D.Depot.files l.fn.depot)
     × (l.total ≤ 134217728)
-    × All (λ clip. IsTrue (is_built l.rate l.channels clip.wave)) l.clips.items
+    × (length l.clips.items ≡ l.number)
+    × All (λ clip. length clip.bytes ≤ 67108864) l.clips.items
     × IfSome (g.D.Depot.files l.fn.depot) (λ files.
-    sounds_from l.rate l.channels files 0 0 l.resources
-    ≡ (sounds_from l.rate l.channels files l.number l.total (drop l.number l.resources) >>= λ more. Ok (map (λ clip. clip.bytes) l.clips.items ++ more)))
+    sounds_from files 0 0 l.resources
+    ≡ (sounds_from files l.number l.total (drop l.number l.resources) >>= λ more. Ok (map (λ clip. clip.bytes) l.clips.items ++ more)))

@@ -1,6 +1,7 @@
 use Rattle.std.proofs.Common.{◌∙◌, ap, refl, Ok, arith}
 use Rattle.std.specs.Option.{option_map}
 use Rattle.snd_io.specs.Files.{put_file}
+use Rattle.snd_io.specs.MemText.{mem_text}
 use Rattle.snd_tools.specs.Outcome.{rendered, rendered_to}
 use Rattle.snd_tools.specs.Reading.{◌>>=◌}
 use Rattle.snd_tools.specs.Rendered.{said_rendering}
@@ -20,8 +21,8 @@ pub returns-in-Done-clause-told : goal.returns-in-Done-clause-told
 returns-in-Done-clause-told g c = λ before told.
     let still = c.in-Ok.ensures.files ∙ told in
     let given = IfSome-at _ (g.D.Depot.files c.args.depot.now) before told c.in-Ok.ensures.told in (
-      put_file c.args.out.now c.in-Ok.rendering.file.items before,
-      rw c.deref.ensures.value at c.in-Done.ensures.after ∙ ap (option_map (put_file c.args.out.now c.in-Ok.rendering.file.items)) still,
+      put_file c.args.out.now (mem_text c.in-Ok.rendering.file) before,
+      rw c.bytes.ensures at c.in-Done.ensures.after ∙ ap (option_map (put_file c.args.out.now (mem_text c.in-Ok.rendering.file))) still,
       (
         rendered_to c.args.out.now (said_rendering c.in-Ok.rendering),
         record { reported = ap (λ r. r >>= λ x. Ok (rendered_to c.args.out.now x)) given; set = refl },
@@ -34,7 +35,7 @@ returns-in-Failed-clause-told g c = λ before told.
     let still = c.in-Ok.ensures.files ∙ told in
     let given = IfSome-at _ (g.D.Depot.files c.args.depot.now) before told c.in-Ok.ensures.told in
     let left = left-in_part _ (rendered_to c.args.out.now (said_rendering c.in-Ok.rendering)) _ before _ _
-    (ap (λ r. r >>= λ x. Ok (rendered_to c.args.out.now x)) given) refl still (rw c.deref.ensures.value at c.in-Failed.ensures.after) in
+    (ap (λ r. r >>= λ x. Ok (rendered_to c.args.out.now x)) given) refl still (rw c.bytes.ensures at c.in-Failed.ensures.after) in
     (left.0, left.1, (omega (arith, c.in-Failed.ensures.cause.cause refl, c.in-Ok.ensures.cause.later), left.2))
 
 pub returns-in-OutOfMemory-clause-told : goal.returns-in-OutOfMemory-clause-told
@@ -42,4 +43,4 @@ returns-in-OutOfMemory-clause-told g c = λ before told.
     let still = c.in-Ok.ensures.files ∙ told in
     let given = IfSome-at _ (g.D.Depot.files c.args.depot.now) before told c.in-Ok.ensures.told in
     left-in_part _ (rendered_to c.args.out.now (said_rendering c.in-Ok.rendering)) _ before _ _
-    (ap (λ r. r >>= λ x. Ok (rendered_to c.args.out.now x)) given) refl still (rw c.deref.ensures.value at c.in-OutOfMemory.ensures.after)
+    (ap (λ r. r >>= λ x. Ok (rendered_to c.args.out.now x)) given) refl still (rw c.bytes.ensures at c.in-OutOfMemory.ensures.after)

@@ -1,0 +1,15 @@
+pub mod Deepening
+pub mod DueEdits
+pub mod Frames
+pub mod Inputs
+pub mod Marks
+pub mod Pouring
+pub mod Pulls
+pub mod Ranks
+pub mod SceneLaws
+pub mod ScenePlans
+pub mod Starting
+pub mod Sums
+pub mod Totals
+pub mod Turning
+pub mod Written

@@ -1,0 +1,50 @@
+use Rattle.std.proofs.Common.{arith, refl, sym, ap, ◌∙◌, subst, ◌≤◌, List, length, map}
+use Rattle.std.specs.List.Sorted.{IsPermutation}
+use Rattle.clip_decode.specs.ClipData.{ClipData}
+use Rattle.scene_model.specs.declared.bus.Bus.{Bus}
+use Rattle.scene_model.specs.IsScene.{IsScene}
+use Rattle.scene_model.specs.Limits as limits
+use Rattle.scene_model.specs.Opening.{opening}
+use Rattle.scene_model.specs.Order.{in_order}
+use Rattle.scene_model.specs.PlanData.{PlanData}
+use Rattle.scene_model.specs.Reach.{HasNoCycle}
+use Rattle.scene_model.specs.SceneData.{SceneData}
+use Rattle.scene_clips.specs.SceneClipData.{SceneClipData}
+use Rattle.mix_model.specs.Mix.{node_frames}
+use Rattle.mix_model.proofs.Deepening.{zeros_at}
+use Rattle.mix_model.proofs.ScenePlans.{buses_most_before}
+use Rattle.mix_model.proofs.Starting.{plan_start, cursor_start, next_start, can_start, channels_start}
+use Rattle.mix_model.proofs.player.Player.new.Goals as goal
+
+pub in_order-requires-clause-no_cycle : goal.in_order-requires-clause-no_cycle
+in_order-requires-clause-no_cycle c = subst (λ (bs : List Bus). HasNoCycle bs) (sym c.buses.ensures.value) c.buses.ensures.plan.no_cycle
+
+pub in_order-requires-clause-most : goal.in_order-requires-clause-most
+in_order-requires-clause-most c =
+    let s = c.args.scene.now in
+    let is : IsScene s = subst (λ (q : SceneData). IsScene q) c.scene.view_is c.scene.invariant in
+    let most : length (opening s).buses ≤ limits.most_buses = subst (λ (p : PlanData). length p.buses ≤ limits.most_buses) (plan_start s) (buses_most_before s 0 is) in
+    rw (c.buses.ensures.value, c.in_ok-plan.ensures) most
+
+pub returns-clause-before : goal.returns-clause-before
+returns-clause-before c =
+    let s = c.args.scene.now in
+    let is : IsScene s = subst (λ (q : SceneData). IsScene q) c.scene.view_is c.scene.invariant in
+    let plan = c.in_ok-plan.plan in
+    let clips = c.in_ok-clips.clips.items in
+    let edits_are = c.in_ok-edits.ensures ∙ ap in_order (c.as_slice.ensures ∙ ap (λ (q : SceneData). q.edits) c.scene.view_is) in
+    record {
+      player = record {
+        scene_is = is;
+        edits_are = edits_are;
+        channels_are = channels_start s (map (λ (x : ClipData). x.bytes) c.args.clips.now) clips c.in_ok-clips.ensures;
+        frames_are = λ n. c.clip_lengths-frames.ensures n ∙ ap (λ (cs : List SceneClipData). node_frames cs s n) c.as_slice-2.ensures.value;
+      };
+      time_most = omega arith;
+      plan_is = c.in_ok-plan.ensures ∙ sym (plan_start s);
+      cursors_are = λ n. zeros_at _ 129 n refl ∙ sym (cursor_start clips s n);
+      next = next_start c.in_ok-edits.edits;
+      can = rw c.in_ok-plan.ensures (can_start s c.in_ok-edits.edits is edits_are);
+      moved = subst (λ (bs : List Bus). IsPermutation bs c.in_ok-wires.wires.items) c.buses.ensures.value c.in_ok-wires.ensures.moved;
+      ordered = c.in_ok-wires.ensures.ordered;
+    }

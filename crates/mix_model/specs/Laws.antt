@@ -1,0 +1,31 @@
+-- What the laws of the mix speak of.
+use Rattle.std.specs.Prelude.{◌≡◌, ◌≢◌, ◌<◌, ◌≤◌, ℕ, false, List, All, Some}
+use Rattle.scene_model.specs.declared.bus.Bus.{Bus}
+use Rattle.scene_model.specs.declared.edit.Edit.{Edit}
+use Rattle.scene_model.specs.declared.edit.Edit.TheVariants.{Seek}
+use Rattle.scene_model.specs.declared.edit.EditRow.{EditRow}
+use Rattle.scene_model.specs.SceneData.{SceneData}
+use Rattle.scene_model.specs.Times.{edits_at, plan}
+use Rattle.mix_model.specs.Pulled.{pulled}
+use Rattle.mix_model.specs.Signals.{Moment}
+
+-- the moment with these buses in its plan
+abbrev pub with_buses : Moment → List Bus → Moment
+with_buses m buses = record m { plan = record m.plan { buses = buses } }
+
+-- no bus is attached to node n
+abbrev pub NoneAttached : List Bus → ℕ → Type 0
+NoneAttached buses n = All (λ (b : Bus). b.to ≢ Some n) buses
+
+-- the scene with these edits
+abbrev pub with_edits : SceneData → List EditRow → SceneData
+with_edits s rows = record s { edits = rows }
+
+-- no edit of these is a seek of node n
+abbrev pub NoneSeeks : ℕ → List Edit → Type 0
+NoneSeeks n edits = All (λ (e : Edit). (place : ℕ) → e ≢ Seek n place) edits
+
+-- up to frame t node n wasn't sought, and before it not pulled
+pub record IsUntouched (s : SceneData) (n t : ℕ) : Type 0 where
+  pub not_sought : (u : ℕ) → u ≤ t → NoneSeeks n (edits_at s.edits u)
+  pub not_pulled : (u : ℕ) → u < t → pulled (plan s u) u n ≡ false

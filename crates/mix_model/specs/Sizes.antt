@@ -1,0 +1,6 @@
+-- The limit of the clips that are mixed.
+use Rattle.std.specs.Prelude.{ℕ}
+
+-- the most bytes of a sound file
+abbrev pub most_file_bytes : ℕ
+most_file_bytes = 67108864

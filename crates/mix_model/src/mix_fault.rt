@@ -1,0 +1,22 @@
+use std::error::Error;
+use std::fmt;
+
+/// Why a mix was not written whole.
+#[derive(Clone, Copy, Debug, PartialEq, Eq)]
+pub enum MixFault {
+    /// The sink failed, and its count of faults rose.
+    SinkFault,
+    /// There was no memory.
+    OutOfMemory,
+}
+
+impl fmt::Display for MixFault {
+    fn fmt<W: fmt::Write>(&self, f: &mut fmt::Formatter<W>) -> fmt::Result {
+        match self {
+            MixFault::SinkFault => f.write_str("the sink failed"),
+            MixFault::OutOfMemory => f.write_str("out of memory"),
+        }
+    }
+}
+
+impl Error for MixFault {}

@@ -1,0 +1,102 @@
+//! An order of buses in which each input is whole before it is handed on.
+
+ghost use Rattle.std.specs.Prelude.{◌≡◌, ◌<◌, true, false, ◌≤◌, ℕ, length, All, IfOk, sum};
+ghost use Rattle.std.specs.List.Sorted.{IsPermutation};
+ghost use Rattle.scene_model.specs.IsPlan.{IsBusOf};
+ghost use Rattle.scene_model.specs.Limits as limits;
+ghost use Rattle.scene_model.specs.Reach.{HasNoCycle};
+ghost use Rattle.mix_model.specs.Wires.{IsOrdered};
+ghost use Rattle.mix_model.specs.Depths.{depth_at, AreAtMost, AllRise, Rises, StaysBelow, IsDeeper};
+
+use plain_data::OutOfMemory;
+use scene_model::Bus;
+use std::alloc::Global;
+
+/// One more than the greatest number of nodes of a plan, for the endpoint.
+pub(crate) const MAX_INPUTS: usize = 129;
+
+/// The buses of a plan in an order in which no bus leads to its own node or to that of a bus before
+/// it: by the greatest number of buses on a way to their node.
+pub(crate) fn in_order(alloc: Global, buses: &[Bus]) -> Result<Vec<Bus>, OutOfMemory>
+    requires buses { All (IsBusOf limits.most_nodes) buses.now }
+    requires no_cycle { HasNoCycle buses.now }
+    requires most { length buses.now ≤ limits.most_buses }
+    ensures moved { IfOk result (λ wires. IsPermutation buses.now wires.items) }
+    ensures ordered { IfOk result (λ wires. IsOrdered wires.items) }
+{
+    let depths = depths(buses);
+    let mut wires = Vec::from_slice(alloc, buses)?;
+    wires.sort_unstable_by_key(|bus| depth(&depths, bus.node));
+    Ok(wires)
+}
+
+/// For each node the greatest number of buses on a way to it.
+fn depths(buses: &[Bus]) -> [u32; MAX_INPUTS]
+    requires buses { All (IsBusOf limits.most_nodes) buses.now }
+    requires no_cycle { HasNoCycle buses.now }
+    requires most { length buses.now ≤ limits.most_buses }
+    ensures { AllRise (depth_at result) buses.now }
+{
+    let mut depths = [0; MAX_INPUTS];
+    settle(buses, &mut depths);
+    depths
+}
+
+/// Sets depths, from 0 on: each attached bus leads to a deeper node.
+fn settle(buses: &[Bus], depths: &mut [u32])
+    requires buses { All (IsBusOf limits.most_nodes) buses.now }
+    requires no_cycle { HasNoCycle buses.now }
+    requires most { length buses.now ≤ limits.most_buses }
+    requires depths { length depths.old ≡ 129 }
+    ensures { AllRise (depth_at depths.new) buses.now }
+{
+    depths.fill(0);
+    while deepen(buses, depths) {}
+}
+
+/// Brings the target of each bus deeper than its node, where it isn't yet. Whether there was one to
+/// bring.
+fn deepen(buses: &[Bus], depths: &mut [u32]) -> bool
+    requires buses { All (IsBusOf limits.most_nodes) buses.now }
+    requires most { length buses.now ≤ limits.most_buses }
+    requires depths { length depths.old ≡ 129 }
+    requires within { AreAtMost limits.most_buses depths.old }
+    ensures kept { StaysBelow buses.now depths.old depths.new }
+    ensures deeper { result ≡ true → sum depths.old < sum depths.new }
+    ensures settled { result ≡ false → AllRise (depth_at depths.new) buses.now }
+{
+    let mut is_deeper = false;
+    for bus in buses {
+        if deepen_target(bus, depths) {
+            is_deeper = true;
+        }
+    }
+    is_deeper
+}
+
+/// Brings the target of a bus deeper than its node. Whether it wasn't yet.
+fn deepen_target(bus: &Bus, depths: &mut [u32]) -> bool
+    requires bus { IsBusOf limits.most_nodes bus.now }
+    requires depths { length depths.old ≡ 129 }
+    requires within { AreAtMost 65536 depths.old }
+    ensures deeper { result ≡ true → IsDeeper bus.now depths.old depths.new }
+    ensures settled { result ≡ false → (depths.new ≡ depths.old) × Rises (depth_at depths.old) bus.now }
+{
+    let Some(to) = bus.to else { return false };
+    let least = depths[bus.node as usize] + 1;
+    if depths[to as usize] >= least {
+        return false;
+    }
+    depths[to as usize] = least;
+    true
+}
+
+/// The depth of a node.
+fn depth(depths: &[u32], node: u32) -> u32
+    ensures { result ≡ depth_at depths.now node }
+{
+    match depths.get(node as usize) {
+        Some(depth) => *depth,
+        None => 0,
+    }
+}

@@ -1,0 +1,35 @@
+//! Which nodes are pulled at a frame.
+
+ghost use Rattle.std.specs.Prelude.{◌≡◌, ◌<◌, ◌≤◌, ℕ, [], length};
+ghost use Rattle.scene_model.specs.IsPlan.{IsBusOf};
+ghost use Rattle.mix_model.specs.Pulled.{pulled};
+ghost use Rattle.mix_model.specs.Wires.{plan_of, AreWires, mark_at, IsMarked};
+
+use crate::frame::is_active;
+use scene_model::{Bus, NodeState};
+
+/// Marks each node that is pulled, and the endpoint. The buses are in the order of `inputs`, and are
+/// looked at from the last to the first, so that a target's mark is settled before it is asked for.
+pub(crate) fn pull(nodes: &[NodeState], wires: &[Bus], time: u32, marks: &mut [bool])
+    requires wires { AreWires (length nodes.now) wires.now }
+    requires marks { length nodes.now < length marks.old }
+    ensures { (n : ℕ) → n ≤ length nodes.now → mark_at marks.new n ≡ pulled (plan_of nodes.now wires.now) time n }
+{
+    marks.fill(false);
+    marks[nodes.len()] = true;
+    for done in 0..wires.len() {
+        mark(nodes, &wires[wires.len() - 1 - done], time, marks);
+    }
+}
+
+/// Marks the node of a bus too, where it is active and the bus leads to a marked node.
+fn mark(nodes: &[NodeState], bus: &Bus, time: u32, marks: &mut [bool])
+    requires bus { IsBusOf (length nodes.now) bus.now }
+    requires marks { length nodes.now < length marks.old }
+    ensures { IsMarked (plan_of nodes.now []) time bus.now marks.old marks.new }
+{
+    let Some(to) = bus.to else { return };
+    if marks[to as usize] && is_active(&nodes[bus.node as usize], time) {
+        marks[bus.node as usize] = true;
+    }
+}

@@ -1,0 +1,124 @@
+//! A scene's WAVE file, written to a sink.
+
+ghost use Rattle.std.specs.Prelude.{◌≡◌, ◌<◌, ◌≤◌, All, length, map, IfOk};
+ghost use Rattle.clip_decode.specs.ClipData.{ClipData};
+ghost use Rattle.snd_io.specs.Answers.{put_failed, Writes};
+ghost use Rattle.snd_io.specs.Faults.{CountsFaults};
+ghost use Rattle.wave_write.specs.Header.{header as header_of, data_bytes};
+ghost use Rattle.mix_model.specs.Mix.{frames_from, mix};
+ghost use Rattle.mix_model.specs.Output.{wav, padding};
+ghost use Rattle.mix_model.specs.Rendering.{data_of, summary_of, IsRendered, answer_of};
+ghost use Rattle.mix_model.specs.Sizes.{most_file_bytes};
+
+use crate::blocks::Blocks;
+use crate::mix_fault::MixFault;
+use crate::summary::Summary;
+use clip_decode::Clip;
+use plain_data::OutOfMemory;
+use scene_model::Scene;
+use snd_io::{Put, Sink};
+use std::alloc::Global;
+use wave_write::header;
+
+/// Mixes a scene frame by frame and writes its WAVE file to a sink: the 44-byte header, the frames,
+/// interleaved and packed at the scene's width, and the pad byte if there is one (RIFF WAVE). The
+/// answer is the summary of the frames.
+///
+/// `clips` are those of the scene's resources, in their order, each of at most 67,108,864 bytes.
+/// Every node is computed once a frame, in an order that is found anew only after edits.
+///
+/// # Errors
+///
+/// `SinkFault` where the sink failed, and `OutOfMemory` where there was no memory. Then a prefix of
+/// the file was written.
+pub fn plain_mix<S: Sink>(
+    alloc: Global,
+    scene: &Scene,
+    clips: &[Clip],
+    sink: &mut S,
+) -> Result<Summary, MixFault>
+    requires count { length clips.now ≡ length scene.now.resources }
+    requires sizes { All (λ (c : ClipData). length c.bytes ≤ most_file_bytes) clips.now }
+    ensures written { let frames = mix scene.now (map (λ (c : ClipData). c.bytes) clips.now) in
+        Writes (answer_of result) (wav scene.now frames) (S.written sink.old) (S.written sink.new) }
+    ensures cause { CountsFaults (S.faults sink.old) (S.faults sink.new) (put_failed (answer_of result)) }
+    ensures summary { let frames = mix scene.now (map (λ (c : ClipData). c.bytes) clips.now) in
+        IfOk result (λ summary. summary ≡ summary_of scene.now frames) }
+{
+    let mut blocks = match Blocks::new(alloc, scene, clips) {
+        Ok(blocks) => blocks,
+        Err(OutOfMemory) => return Err(MixFault::OutOfMemory),
+    };
+    match write_wav(alloc, scene, &mut blocks, sink) {
+        Put::Done => Ok(blocks.summary),
+        Put::Failed => Err(MixFault::SinkFault),
+        Put::OutOfMemory => Err(MixFault::OutOfMemory),
+    }
+}
+
+/// Writes the header, the frames and the pad byte if there is one.
+fn write_wav<S: Sink>(alloc: Global, scene: &Scene, blocks: &mut Blocks, sink: &mut S) -> Put
+    requires rendered { IsRendered scene.now blocks.old }
+    requires start { blocks.old.player.time ≡ 0 }
+    ensures after { let frames = frames_from blocks.old.player.clips.items scene.now 0 scene.now.length in
+        Writes result (wav scene.now frames) (S.written sink.old) (S.written sink.new) }
+    ensures cause { CountsFaults (S.faults sink.old) (S.faults sink.new) (put_failed result) }
+    ensures summary { let frames = frames_from blocks.old.player.clips.items scene.now 0 scene.now.length in
+        result ≡ Put.Done → blocks.new.summary ≡ summary_of scene.now frames }
+{
+    match sink.write(alloc, &scene_header(scene)) {
+        Put::Done => {}
+        Put::Failed => return Put::Failed,
+        Put::OutOfMemory => return Put::OutOfMemory,
+    }
+    match write_frames(alloc, scene, blocks, sink) {
+        Put::Done => {}
+        Put::Failed => return Put::Failed,
+        Put::OutOfMemory => return Put::OutOfMemory,
+    }
+    write_padding(alloc, scene, sink)
+}
+
+/// The header of a scene's file.
+fn scene_header(scene: &Scene) -> [u8; 44]
+    ensures { result ≡ header_of scene.now.channels scene.now.rate scene.now.width scene.now.length }
+{
+    header(scene.channels, scene.rate, scene.width, scene.length)
+}
+
+/// Writes all frames, block by block.
+fn write_frames<S: Sink>(alloc: Global, scene: &Scene, blocks: &mut Blocks, sink: &mut S) -> Put
+    requires rendered { IsRendered scene.now blocks.old }
+    requires start { blocks.old.player.time ≡ 0 }
+    ensures after { let frames = frames_from blocks.old.player.clips.items scene.now 0 scene.now.length in
+        Writes result (data_of scene.now frames) (S.written sink.old) (S.written sink.new) }
+    ensures cause { CountsFaults (S.faults sink.old) (S.faults sink.new) (put_failed result) }
+    ensures summary { let frames = frames_from blocks.old.player.clips.items scene.now 0 scene.now.length in
+        result ≡ Put.Done → blocks.new.summary ≡ summary_of scene.now frames }
+{
+    while blocks.player.time < scene.length {
+        match blocks.next(alloc, scene) {
+            Ok(()) => {}
+            Err(OutOfMemory) => return Put::OutOfMemory,
+        }
+        match sink.write(alloc, blocks.bytes.as_slice()) {
+            Put::Done => {}
+            Put::Failed => return Put::Failed,
+            Put::OutOfMemory => return Put::OutOfMemory,
+        }
+    }
+    Put::Done
+}
+
+/// Writes the zero byte that follows data of an odd size.
+fn write_padding<S: Sink>(alloc: Global, scene: &Scene, sink: &mut S) -> Put
+    ensures after { Writes result (padding (data_bytes scene.now.channels scene.now.width scene.now.length)) (S.written sink.old) (S.written sink.new) }
+    ensures cause { CountsFaults (S.faults sink.old) (S.faults sink.new) (put_failed result) }
+{
+    let size = scene.length * (u32::from(scene.channels) * u32::from(scene.width / 8));
+    if size % 2 == 1 {
+        sink.write(alloc, &[0])
+    } else {
+        Put::Done
+    }
+}

@@ -1,0 +1,118 @@
+-- The pages of a file, and the frames in them.
+use Rattle.std.proofs.Common.{◌≡◌, ℕ, zero, suc, ◌+◌, ◌-◌, ◌*◌, ◌/◌, ◌%◌, ◌<◌, ◌≤◌, min, List, [], ◌∷◌, ◌++◌, length, map, take, drop, ℤ, pos, get_or, refl, ap, sym, ◌∙◌, arith, add-one}
+use Rattle.std.specs.Prelude.{Ok}
+use Rattle.std.specs.List.{range_with_len}
+use Rattle.std.proofs.Math.Nat.{mul-le-mul_right}
+use Rattle.std.proofs.lemmas.List.{ext_get_or, get_or-take, get_or-drop, get_or-map, length-drop, length-map, length-take-le}
+use Rattle.std.proofs.lemmas.List.FromFn.{length-map-range_with_len, get_or-map-range_with_len}
+use Rattle.clip_decode.specs.Frames.{frame_by, frames, interleaved}
+use Rattle.clip_decode.specs.Pages.{page_frames, PageData}
+use Rattle.clip_decode.specs.Samples.{sample_of}
+use Rattle.clip_decode.proofs.PageLists.{page_by_number, length_joined, joined_at}
+use Rattle.rate_fit.specs.Channels.{in_channels}
+use Rattle.wave_read.specs.Wave.{wave}
+use Rattle.wave_read.specs.declared.wave.Wave.{Wave}
+use Rattle.scene_clips.specs.ClipFrames.{all_in_channels, sample_or_zero}
+use Rattle.scene_clips.specs.SceneClipData.{page_data, pages_data}
+
+mapped_more : {X : Type 0} (f : ℕ → X) (a n : ℕ) → map f (range_with_len a (suc n)) ≡ map f (range_with_len a n) ++ f (a + n) ∷ []
+mapped_more f a zero = let first : a ≡ a + 0 = omega arith in ap (λ k. f k ∷ []) first
+mapped_more f a (suc n) =
+    let next : a + 1 + n ≡ a + suc n = omega arith in
+    ap (λ xs. f a ∷ xs) (mapped_more f (a + 1) n ∙ ap (λ k. map f (range_with_len (a + 1) n) ++ f k ∷ []) next)
+
+-- one page more
+pub pages_more : (bytes : List ℕ) (w : Wave) (k : ℕ) → pages_data bytes w (k + 1) ≡ pages_data bytes w k ++ page_data bytes w k ∷ []
+pages_more bytes w k =
+    let number : 0 + k ≡ k = omega arith in
+    ap (λ n. map (page_data bytes w) (range_with_len 0 n)) (add-one k) ∙ mapped_more (page_data bytes w) 0 k
+    ∙ ap (λ n. pages_data bytes w k ++ page_data bytes w n ∷ []) number
+
+pub pages_counted : (bytes : List ℕ) (w : Wave) (n : ℕ) (kept : List PageData) → kept ≡ pages_data bytes w n → length kept ≡ n
+pages_counted bytes w n kept are = ap length are ∙ length-map-range_with_len (page_data bytes w) 0 n
+
+-- the page at a place
+pub page_at : (bytes : List ℕ) (w : Wave) (n k : ℕ) (kept : List PageData) (found : PageData) → kept ≡ pages_data bytes w n → k < n
+    → found ≡ get_or kept k found → found ≡ page_data bytes w k
+page_at bytes w n k kept found are below here =
+    here ∙ ap (λ xs. get_or xs k found) are ∙ get_or-map-range_with_len (page_data bytes w) 0 n k k found below (omega arith)
+
+pub frames_counted : (bytes : List ℕ) (w : Wave) → wave bytes ≡ Ok w → length (frames bytes) ≡ w.frames
+unfolding frames
+frames_counted bytes w said = rw said (length-map-range_with_len (λ n. frame_by (sample_of bytes w n) w.channels) 0 w.frames)
+
+frame_of : (bytes : List ℕ) (w : Wave) (n : ℕ) → wave bytes ≡ Ok w → n < w.frames
+    → get_or (frames bytes) n [] ≡ frame_by (sample_of bytes w n) w.channels
+unfolding frames
+frame_of bytes w n said below =
+    rw said (get_or-map-range_with_len (λ k. frame_by (sample_of bytes w k) w.channels) 0 w.frames n n [] below (omega arith))
+
+-- a frame of those that are joined
+module _ (f : ℕ → List ℤ) (ch : ℕ) (width : (n : ℕ) → length (f n) ≡ ch) where
+  part_fits : (a n k : ℕ) → k < n → k * ch + ch ≤ length (interleaved (map f (range_with_len a n)))
+  part_fits a n k below =
+      let more : k + 1 ≤ n = omega arith in
+      omega (arith, length_joined f ch width a n, mul-le-mul_right {m = k + 1} {n = n} ch more)
+
+  joined_part : (a n k : ℕ) → k < n → take ch (drop (k * ch) (interleaved (map f (range_with_len a n)))) ≡ f (a + k)
+  joined_part a n k below =
+      let xs = interleaved (map f (range_with_len a n)) in
+      let whole : length (take ch (drop (k * ch) xs)) ≡ ch =
+      length-take-le ch (drop (k * ch) xs) (omega (arith, part_fits a n k below, length-drop (k * ch) xs)) in
+      ext_get_or (pos 0) (take ch (drop (k * ch) xs)) (f (a + k)) (whole ∙ sym (width (a + k)))
+      (λ c lt.
+      let channel : c < ch = omega (arith, lt, whole) in
+      get_or-take ch (drop (k * ch) xs) c (pos 0) channel ∙ get_or-drop (k * ch) xs c (pos 0)
+      ∙ joined_at f ch width a n k c below channel)
+
+module _ (bytes : List ℕ) (w : Wave) (frame : ℕ) (said : wave bytes ≡ Ok w) (below : frame < w.frames) where
+  made : ℕ → List ℤ
+  made m = frame_by (sample_of bytes w m) w.channels
+
+  wide : (m : ℕ) → length (made m) ≡ w.channels
+  unfolding made
+  wide m = length-map-range_with_len (sample_of bytes w m) 0 w.channels
+
+  held : ℕ
+  held = min (w.frames - 8192 * (frame / 8192)) 8192
+
+  inside : frame % 8192 < held
+  unfolding held
+  inside = omega arith
+
+  listed : page_frames bytes (frame / 8192) ≡ map made (range_with_len (8192 * (frame / 8192)) held)
+  unfolding made held
+  listed = page_by_number bytes w (frame / 8192) said
+
+  pub frame_fits : frame % 8192 * w.channels + w.channels ≤ length (interleaved (page_frames bytes (frame / 8192)))
+  frame_fits = rw listed (part_fits made w.channels wide (8192 * (frame / 8192)) held (frame % 8192) inside)
+
+  -- the frame, as its page has it
+  frame_in_page : take w.channels (drop (frame % 8192 * w.channels) (interleaved (page_frames bytes (frame / 8192)))) ≡ get_or (frames bytes) frame []
+  unfolding made
+  frame_in_page =
+      let place : 8192 * (frame / 8192) + frame % 8192 ≡ frame = omega arith in
+      rw listed (joined_part made w.channels wide (8192 * (frame / 8192)) held (frame % 8192) inside)
+      ∙ ap made place ∙ sym (frame_of bytes w frame said below)
+
+  -- and its sample in the scene's channels
+  pub sample_heard : (channels c : ℕ)
+      → get_or (in_channels channels (take w.channels (drop (frame % 8192 * w.channels) (interleaved (page_frames bytes (frame / 8192)))))) c (pos 0)
+      ≡ sample_or_zero (all_in_channels channels (frames bytes)) frame c
+  sample_heard channels c =
+      ap (λ xs. get_or (in_channels channels xs) c (pos 0)) frame_in_page
+      ∙ ap (λ xs. get_or xs c (pos 0))
+      (sym (get_or-map (in_channels channels) (frames bytes) frame [] [] (omega (arith, below, frames_counted bytes w said))))
+
+get_or_past : {X : Type 0} (xs : List X) (i : ℕ) (d : X) → length xs ≤ i → get_or xs i d ≡ d
+get_or_past [] i d past = refl
+get_or_past (x ∷ xs) zero d past = absurd (omega arith)
+get_or_past (x ∷ xs) (suc i) d past = get_or_past xs i d (omega arith)
+
+-- past the last frame there is silence
+pub nothing_past_end : (bytes : List ℕ) (w : Wave) (channels frame c : ℕ) → wave bytes ≡ Ok w → w.frames ≤ frame
+    → sample_or_zero (all_in_channels channels (frames bytes)) frame c ≡ pos 0
+nothing_past_end bytes w channels frame c said past =
+    let list = all_in_channels channels (frames bytes) in
+    let count : length list ≡ w.frames = length-map (frames bytes) (in_channels channels) ∙ frames_counted bytes w said in
+    ap (λ xs. get_or xs c (pos 0)) (get_or_past list frame [] (omega (arith, count, past)))

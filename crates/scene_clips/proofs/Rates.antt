@@ -1,0 +1,59 @@
+-- A file at the scene's rate.
+use Rattle.std.proofs.Common.{◌≡◌, ℕ, ◌+◌, ◌-◌, ◌*◌, ◌<◌, ◌≤◌, List, length, ℤ, pos, negsuc, ◌+ℤ◌, ◌*ℤ◌, refl, ap, arith}
+use Rattle.std.specs.Prelude.{Ok}
+use Rattle.std.specs.Int.{int_div_euclid}
+use Rattle.std.proofs.Math.Nat.{mul-div_cancel}
+use Rattle.std.proofs.lemmas.Int.{ints}
+use Rattle.std.proofs.lemmas.Nat.{div-mul-add}
+use Rattle.clip_decode.specs.Frames.{frames}
+use Rattle.clip_decode.proofs.Limits.{few_frames}
+use Rattle.rate_fit.specs.Blend.{blended}
+use Rattle.rate_fit.specs.Conversion.{Conversion, IsConversion, length_of}
+use Rattle.rate_fit.specs.Points.{point_at}
+use Rattle.rate_fit.specs.declared.point.Point.{Point}
+use Rattle.wave_read.specs.Wave.{wave}
+use Rattle.wave_read.specs.Laws.{IsWaveOf}
+use Rattle.wave_read.specs.declared.wave.Wave.{Wave}
+use Rattle.scene_clips.specs.ClipFrames.{all_in_channels, sample_or_zero, file_rate, rate_said, clip_length, clip_sample}
+use Rattle.scene_clips.proofs.FilePages.{frames_counted}
+
+rate_of : (bytes : List ℕ) (w : Wave) → wave bytes ≡ Ok w → file_rate bytes ≡ w.rate
+rate_of bytes w said = ap rate_said said
+
+pub conversion : (bytes : List ℕ) (w : Wave) (rate : ℕ) → IsWaveOf bytes w → length bytes ≤ 67108864 → 1 ≤ rate → rate ≤ 768000
+    → IsConversion (record { rin = w.rate; rout = rate; frames = w.frames })
+conversion bytes w rate lawful short least most = record {
+  some_in = lawful.lies.rate_least;
+  most_in = lawful.lies.rate_most;
+  some_out = least;
+  most_out = most;
+  short = omega (arith, short, few_frames bytes w lawful.lies);
+}
+
+pub fit_length : (bytes : List ℕ) (w : Wave) (fit : Conversion) → wave bytes ≡ Ok w → fit.rin ≡ w.rate → fit.frames ≡ w.frames
+    → clip_length bytes fit.rout ≡ length_of fit
+unfolding clip_length
+fit_length bytes w fit said rin count = rw (frames_counted bytes w said, rate_of bytes w said, rin, count) refl
+
+-- a sample between two of the file's
+pub blended_is : (bytes : List ℕ) (w : Wave) (fit : Conversion) (channels n c : ℕ) (p : Point) (first second : ℤ) → wave bytes ≡ Ok w
+    → fit.rin ≡ w.rate → p ≡ point_at fit.rin fit.rout n
+    → first ≡ sample_or_zero (all_in_channels channels (frames bytes)) p.first c
+    → second ≡ sample_or_zero (all_in_channels channels (frames bytes)) (p.first + 1) c
+    → blended first second p.weight fit.rout ≡ clip_sample bytes fit.rout channels n c
+unfolding clip_sample
+blended_is bytes w fit channels n c p first second said rin point first_is second_is =
+    rw (first_is, second_is, point, rin, rate_of bytes w said) refl
+
+whole_quotient : (a : ℤ) (r : ℕ) → 0 < r → int_div_euclid (a *ℤ pos r) (pos r) ≡ a
+whole_quotient (pos n) r some = omega (arith, ints, mul-div_cancel n {n = r} some)
+whole_quotient (negsuc n) r some =
+    let product : negsuc n *ℤ pos r ≡ negsuc (n * r + (r - 1)) = omega (arith, ints) in
+    rw product (omega (arith, ints, div-mul-add n r (r - 1) (omega arith)))
+
+-- where the second has no weight
+pub first_alone : (a b : ℤ) (r : ℕ) → 0 < r → blended a b 0 r ≡ a
+first_alone a b r some =
+    let all : r - 0 ≡ r = omega arith in
+    let sum : (a *ℤ pos r) +ℤ (b *ℤ pos 0) ≡ a *ℤ pos r = omega (arith, ints) in
+    rw (all, sum) (whole_quotient a r some)

@@ -1,0 +1,5 @@
+use Rattle.scene_clips.proofs.Heard.{list_has_samples}
+use Rattle.scene_clips.proofs.laws.clip_has_samples.Goals as goal
+
+pub returns : goal.returns
+returns c = list_has_samples

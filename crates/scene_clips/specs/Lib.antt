@@ -1,0 +1,2 @@
+pub mod ClipFrames
+pub mod SceneClipData

@@ -1,0 +1,23 @@
+//! Laws of what a scene hears of a file. The functions do nothing.
+
+ghost use Rattle.std.specs.Prelude.{◌≡◌, ℕ, List, [], Err};
+ghost use Rattle.scene_clips.specs.ClipFrames.{clip_frames, clip_length, clip_sample};
+ghost use Rattle.clip_decode.specs.Frames.{HasSamples};
+ghost use Rattle.wave_read.specs.Wave.{wave};
+ghost use Rattle.wave_read.specs.declared.wave_fault.WaveFault.{WaveFault};
+
+/// The list of a file's frames at a rate has as many frames as its length says, of one sample a
+/// channel, each by the numbers of its frame and its channel.
+pub fn clip_has_samples()
+    ensures { (bytes : List ℕ) (rate channels : ℕ) →
+        HasSamples (clip_length bytes rate) channels (clip_sample bytes rate channels)
+        (clip_frames bytes rate channels) }
+{}
+
+/// Nothing is heard of a file that is refused.
+pub fn nothing_heard_where_refused()
+    ensures frames { (bytes : List ℕ) (rate channels : ℕ) (fault : WaveFault) →
+        wave bytes ≡ Err fault → clip_frames bytes rate channels ≡ [] }
+    ensures length { (bytes : List ℕ) (rate : ℕ) (fault : WaveFault) →
+        wave bytes ≡ Err fault → clip_length bytes rate ≡ 0 }
+{}

@@ -1,0 +1,17 @@
+//! Clips as a scene hears them: at the scene's rate and in its channels.
+//!
+//! A [`SceneClip`] is a clip of which all pages are decoded, once. Its samples are read by the
+//! numbers of their frame and their channel, in any order: each takes at most two frames of the
+//! file, brings them to the scene's channels, and blends them where it lies between the two.
+//!
+//! `specs/ClipFrames.antt` says what is heard: the list of the file's frames, converted to the
+//! scene's channels frame by frame and then to its rate. [`clip_has_samples`] ties that list to
+//! the samples by number.
+#![tactic(auto)]
+
+mod laws;
+mod mixdown;
+mod scene_clip;
+
+pub use laws::{clip_has_samples, nothing_heard_where_refused};
+pub use scene_clip::SceneClip;

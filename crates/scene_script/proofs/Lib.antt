@@ -1,0 +1,5 @@
+pub mod Documents
+pub mod Edits
+pub mod FirstFaults
+pub mod Keys
+pub mod Rows

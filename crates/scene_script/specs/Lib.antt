@@ -1,0 +1,14 @@
+pub mod BusRows
+pub mod Checked
+pub mod EditRows
+pub mod Fields
+pub mod FirstFault
+pub mod Headers
+pub mod KeysRead
+pub mod Making
+pub mod Names
+pub mod NodeRows
+pub mod Reads
+pub mod ResourceRows
+pub mod Script
+pub mod TableRows

@@ -1,0 +1,126 @@
+ghost use Rattle.std.specs.Prelude.{◌≡◌, ◌<◌, ◌^◌, pos};
+
+use scene_model::Reply;
+
+/// A table of a script: its top level, or a kind of row.
+#[derive(Debug, Clone, Copy, PartialEq, Eq)]
+pub enum TableKind {
+    /// The top level.
+    Scene,
+    /// `[[resource]]`.
+    Resource,
+    /// `[[node]]`.
+    Node,
+    /// `[[bus]]`.
+    Bus,
+    /// `[[edit]]`.
+    Edit,
+}
+
+/// A number of a scene that has a limit.
+#[derive(Debug, Clone, Copy, PartialEq, Eq)]
+pub enum Which {
+    /// The sample rate in Hz, 1 to 768000.
+    Rate,
+    /// The number of channels, 1 to 2.
+    Channels,
+    /// The bits of a sample of the output, 16 or 24.
+    Width,
+    /// The length in frames, 0 to 16777216.
+    Length,
+    /// The number of rows of `resource`, at most 64.
+    Resources,
+    /// The bytes of the name of a sound file, 1 to 255.
+    FileName,
+    /// The number of rows of `node`, at most 128.
+    Nodes,
+    /// The outputs of a splitter, 2 to 4.
+    Outputs,
+    /// The first frame at which a node may be active, 0 to 16777216.
+    From,
+    /// The frame from which on a node is no longer active, 0 to 16777216.
+    Until,
+    /// The number of output buses of all nodes, at most 256.
+    Buses,
+    /// The number of rows of `bus`, at most 256.
+    BusRows,
+    /// The number of rows of `edit`, at most 4096.
+    Edits,
+    /// The number of an output of a node, 0 to 255.
+    Out,
+    /// The gain of a row of `bus` in 1/65536, 0 to 4294967295.
+    Gain,
+    /// The frame of an edit, 0 to 16777216.
+    At,
+    /// The value of an edit: 0 to 4294967295 for a gain, 0 to 16777216 for a time, 0 to
+    /// 140737488355327 for a place, 0 to 1 for a loop.
+    Value,
+    /// The editor of an edit, 0 to 3.
+    Editor,
+    /// The length of a scene that is played live. No reader of a script gives it.
+    LiveLength,
+}
+
+/// Why a text is no script of a scene. Rows count from 1, and row 0 is the table as a whole.
+#[derive(Debug, Clone, Copy, PartialEq, Eq)]
+pub enum SceneFault {
+    /// The bytes aren't a TOML document.
+    NotToml,
+    /// The version of the script's form is another than 1.
+    Version {
+        n: i64,
+    },
+    /// A key without a default is absent.
+    MissingKey {
+        table: TableKind,
+        row: u32,
+    },
+    /// A value is of another kind than its key has, a name isn't of the form of names, or a table
+    /// isn't an array of tables.
+    WrongKind {
+        table: TableKind,
+        row: u32,
+    },
+    /// A key is none of those of its table, or none that its kind of node or edit has.
+    UnknownKey {
+        table: TableKind,
+        row: u32,
+    },
+    /// The name of a resource or a node is nobody's.
+    UnknownName {
+        table: TableKind,
+        row: u32,
+    },
+    /// An earlier row of the table has the name, or a node is named `endpoint`.
+    DoubleName {
+        table: TableKind,
+        row: u32,
+    },
+    /// A number is out of its limits. `limit` is the greatest that is allowed where `found` is above
+    /// it, and the least one otherwise; for the width it is 24.
+    Limit {
+        which: Which,
+        found: i64,
+        limit: i64,
+    },
+    /// An edit that the row stands for isn't made: its reply isn't `Done`.
+    EditRefused {
+        table: TableKind,
+        row: u32,
+        reply: Reply,
+    },
+}
+
+impl SceneFault {
+    /// There are more of something than the greatest number allowed.
+    pub(crate) fn too_many(which: Which, found: usize, most: u32) -> SceneFault
+        requires { found < 2 ^ 63 }
+        ensures { result ≡ SceneFault.Limit which (pos found) (pos most) }
+    {
+        SceneFault::Limit {
+            which,
+            found: found as i64,
+            limit: i64::from(most),
+        }
+    }
+}

@@ -1,0 +1,24 @@
+ghost use Rattle.std.specs.Prelude.{◌≡◌, ◌↔◌, List, [], Err};
+ghost use Rattle.toml.specs.Data.{Members};
+ghost use Rattle.scene_model.specs.declared.node.Node.{Node};
+ghost use Rattle.scene_model.specs.declared.resource.Resource.{Resource};
+ghost use Rattle.scene_model.specs.PlanData.{PlanData};
+ghost use Rattle.scene_script.specs.declared.fault.SceneFault.{SceneFault};
+ghost use Rattle.scene_script.specs.declared.placed_edit.PlacedEdit.{PlacedEdit};
+ghost use Rattle.scene_script.specs.BusRows.{bus_row, bus_rows};
+ghost use Rattle.scene_script.specs.EditRows.{edit_row, edit_rows};
+ghost use Rattle.scene_script.specs.FirstFault.{HasFirst, RefusesFirst};
+ghost use Rattle.scene_script.specs.Making.{all_done};
+ghost use Rattle.scene_script.specs.NodeRows.{node_row, node_rows};
+ghost use Rattle.scene_script.specs.ResourceRows.{resource_row, resource_rows};
+
+/// A law: the rows of a kind have a fault exactly where some row has it, by what the rows before it
+/// give, and no row before it has one. The edits of a script are refused exactly where some edit is,
+/// in the plan after those before it, and each of those is done.
+pub fn faults_are_the_first()
+    ensures resources { (rows : List Members) (f : SceneFault) → (resource_rows rows ≡ Err f) ↔ HasFirst resource_row [] rows f }
+    ensures nodes { (resources : List Resource) (rows : List Members) (f : SceneFault) → (node_rows resources rows ≡ Err f) ↔ HasFirst (node_row resources) [] rows f }
+    ensures buses { (nodes : List Node) (rows : List Members) (f : SceneFault) → (bus_rows nodes rows ≡ Err f) ↔ HasFirst (bus_row nodes) [] rows f }
+    ensures edits { (nodes : List Node) (rows : List Members) (f : SceneFault) → (edit_rows nodes rows ≡ Err f) ↔ HasFirst (edit_row nodes) [] rows f }
+    ensures made { (plan : PlanData) (edits : List PlacedEdit) (f : SceneFault) → (all_done plan edits ≡ Err f) ↔ RefusesFirst plan edits f }
+{}

@@ -1,0 +1,56 @@
+use crate::fault::SceneFault;
+use plain_data::OutOfMemory;
+use std::alloc::{AllocError, AllocFailed};
+
+/// Why a script couldn't be read.
+#[derive(Debug, Clone, Copy, PartialEq, Eq)]
+pub enum ScriptError {
+    /// The text is no script of a scene. It is the first fault.
+    Fault(SceneFault),
+    /// There was no memory.
+    OutOfMemory,
+}
+
+impl From<SceneFault> for ScriptError {
+    ghost use Rattle.std.specs.Prelude.{◌≡◌};
+    ghost use Rattle.scene_script.specs.declared.script_error.ScriptError.TheVariants.{Fault};
+
+    ghost from_gives = { λ f e. e ≡ Fault f };
+
+    fn from(fault: SceneFault) -> Self {
+        ScriptError::Fault(fault)
+    }
+}
+
+impl From<OutOfMemory> for ScriptError {
+    ghost use Rattle.std.specs.Prelude.{◌≡◌};
+    ghost use Rattle.scene_script.specs.declared.script_error.ScriptError.TheVariants.{OutOfMemory};
+
+    ghost from_gives = { λ _ e. e ≡ OutOfMemory };
+
+    fn from(_: OutOfMemory) -> Self {
+        ScriptError::OutOfMemory
+    }
+}
+
+impl From<AllocError> for ScriptError {
+    ghost use Rattle.std.specs.Prelude.{◌≡◌};
+    ghost use Rattle.scene_script.specs.declared.script_error.ScriptError.TheVariants.{OutOfMemory};
+
+    ghost from_gives = { λ _ e. e ≡ OutOfMemory };
+
+    fn from(_: AllocError) -> Self {
+        ScriptError::OutOfMemory
+    }
+}
+
+impl<T: Drop> From<AllocFailed<T>> for ScriptError {
+    ghost use Rattle.std.specs.Prelude.{◌≡◌};
+    ghost use Rattle.scene_script.specs.declared.script_error.ScriptError.TheVariants.{OutOfMemory};
+
+    ghost from_gives = { λ _ e. e ≡ OutOfMemory };
+
+    fn from(_: AllocFailed<T>) -> Self {
+        ScriptError::OutOfMemory
+    }
+}

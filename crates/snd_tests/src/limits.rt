@@ -1,0 +1,51 @@
+//! The limits of a scene's files together.
+use crate::programs::ends;
+use plain_data::OutOfMemory;
+use snd_io::SureDepot;
+use std::alloc::Global;
+use std::test::Fail;
+use wave_write::header;
+
+/// A script of these resources, of which none is played.
+const TWICE: &str = "version = 1
+rate = 8000
+channels = 1
+width = 16
+length = 0
+resource = [{ name = \"a\", file = \"long\" }, { name = \"b\", file = \"long\" }]
+";
+
+const ONE_MORE: &str = "version = 1
+rate = 8000
+channels = 1
+width = 16
+length = 0
+resource = [{ name = \"a\", file = \"long\" }, { name = \"b\", file = \"long\" }, { name = \"c\", file = \"short\" }]
+";
+
+/// The status and the line of `mix` of a script, where `long` has 64 MiB and `short` is empty sound.
+fn is_told(alloc: Global, script: &str, code: u8, line: &str) -> Result<bool, OutOfMemory> {
+    let mut depot = SureDepot::new(alloc)?;
+    let mut long = Vec::from_slice(alloc, &header(1, 8000, 16, 33_554_410))?;
+    long.resize(67_108_864, 0)?;
+    depot.set(alloc, "long", &long)?;
+    depot.set(alloc, "short", &header(1, 8000, 16, 0))?;
+    depot.set(alloc, "scene.toml", script.as_bytes())?;
+    ends(
+        alloc,
+        &mut depot,
+        &["mix", "scene.toml", "out.wav"],
+        code,
+        line,
+    )
+}
+
+#[test]
+fn a_file_that_two_resources_name_counts_twice(rt: HostRuntime) -> Result<(), Fail> {
+    let alloc = rt.alloc();
+    let done = "frames 0 rate 8000 channels 1 width 16 bytes 44 peak 0 sum 0\n";
+    assert!(rt; is_told(alloc, TWICE, 0, done)?);
+    let refused = "too long: short limit 134217728\n";
+    assert!(rt; is_told(alloc, ONE_MORE, 5, refused)?);
+    Ok(())
+}

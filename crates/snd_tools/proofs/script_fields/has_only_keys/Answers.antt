@@ -1,7 +1,0 @@
-use Rattle.std.proofs.Common.{◌∙◌}
-use Rattle.snd_tools.proofs.Rows.{keys_among}
-use Rattle.snd_tools.proofs.script_fields.has_only_keys.Goals as goal
-
--- a map's keys are its members' keys
-pub returns : goal.returns
-returns c = c.keys_are_among.ensures ∙ keys_among c.args.known.now c.args.table.now.entries

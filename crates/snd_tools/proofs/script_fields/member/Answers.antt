@@ -1,6 +1,0 @@
-use Rattle.toml.proofs.Views.{table_get}
-use Rattle.snd_tools.proofs.script_fields.member.Goals as goal
-
--- the map of a table finds what its members have
-pub returns : goal.returns
-returns c = table_get c.get.result c.args.key.now c.args.table.now.entries c.get.ensures.value

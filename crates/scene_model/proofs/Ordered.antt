@@ -167,6 +167,7 @@ all_put p (x ∷ placed) e = by_test (all_put p placed e) (later e.row.at x)
     swapped true b c = refl
     swapped false true c = refl
     swapped false false c = refl
+
     by_test : list_all p (put placed e) ≡ (p e && list_all p placed) → (b : Bool) → list_all p (if b then e ∷ x ∷ placed else x ∷ put placed e) ≡ (p e && (p x && list_all p placed))
     by_test ih true = refl
     by_test ih false = ap (λ b. p x && b) ih ∙ swapped (p x) (p e) (list_all p placed)

@@ -21,6 +21,7 @@ abbrev pub to_of : Place → List Node → Members → Option Data → Result To
 to_of p nodes ms None = Ok Nowhere
 to_of p nodes ms (Some d) = target_at p nodes (codes "to") ms >>= λ to. Ok (Named to)
 
+-- the target at `to`
 unfoldable pub to_at : Place → List Node → Members → Result To SceneFault
 to_at p nodes ms = to_of p nodes ms (get_member (codes "to") ms)
 
@@ -45,17 +46,21 @@ known_bus p b = do
   to ← known_to p b.to
   Ok (record { node = node; out = b.out; to = to; gain = b.gain })
 
+-- there is no key but those of a bus row
 unfoldable pub known_bus_keys : Place → Members → Result (Unit {0}) SceneFault
 known_bus_keys p ms = known_keys p (codes "node" ∷ codes "out" ∷ codes "to" ∷ codes "gain" ∷ []) ms
 
+-- the bus row of a row, by those before it, of which only the number matters
 unfoldable pub bus_row : List Node → List BusRow → Members → Result BusRow SceneFault
 bus_row nodes before ms = let p = place kinds.Bus (length before + 1) in do
   is_known ← known_bus_keys p ms
   keys ← bus_keys p nodes ms
   known_bus p keys
 
+-- the bus rows of rows, in order
 abbrev pub bus_rows : List Node → List Members → Result (List BusRow) SceneFault
 bus_rows nodes rows = each (bus_row nodes) [] rows
 
+-- the bus rows of a script
 unfoldable pub buses : List Node → Members → Result (List BusRow) SceneFault
 buses nodes ms = rows_at kinds.Bus (codes "bus") which.BusRows limits.most_bus_rows ms >>= bus_rows nodes

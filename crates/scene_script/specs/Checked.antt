@@ -21,5 +21,6 @@ GivesAs see (Ok x) said = said ≡ Ok (see x)
 GivesAs see (Err (Fault f)) said = said ≡ Err f
 GivesAs see (Err OutOfMemory) said = Unit {0}
 
+-- the same of a value that is seen as it is
 abbrev pub Gives : {A : Type 0} → Result A ScriptError → Result A SceneFault → Type 0
 Gives r said = GivesAs (λ x. x) r said

@@ -20,6 +20,7 @@ use Rattle.scene_script.specs.Fields.{place, bounds, number_at, number_or, outpu
 use Rattle.scene_script.specs.Names.{node_at, target_at, known_name}
 use Rattle.scene_script.specs.TableRows.{rows_at}
 
+-- the op that a word stands for
 abbrev pub op_of : Place → List ℕ → Result OpWord SceneFault
 op_of p text =
     if bytes_eq text (codes "attach") then Ok op.Attach
@@ -32,6 +33,7 @@ op_of p text =
     else (if bytes_eq text (codes "seek") then Ok op.Seek
     else (if bytes_eq text (codes "loop") then Ok op.Loop else Err (WrongKind p.table p.row)))))))))
 
+-- the word at `op`
 unfoldable pub op_at : Place → Members → Result OpWord SceneFault
 op_at p ms = text_at p (codes "op") ms >>= op_of p
 
@@ -51,6 +53,7 @@ node_alone_keys = codes "op" ∷ codes "at" ∷ codes "node" ∷ codes "editor" 
 abbrev pub value_keys : List (List ℕ)
 value_keys = codes "op" ∷ codes "at" ∷ codes "node" ∷ codes "value" ∷ codes "editor" ∷ []
 
+-- the same by the op
 abbrev pub keys_of : OpWord → List (List ℕ)
 keys_of op.Attach = attach_keys
 keys_of op.Detach = detach_keys
@@ -62,6 +65,7 @@ keys_of op.Until = value_keys
 keys_of op.Seek = value_keys
 keys_of op.Loop = value_keys
 
+-- there is no key but those of the op
 unfoldable pub known_of : Place → OpWord → Members → Result (Unit {0}) SceneFault
 known_of p w ms = known_keys p (keys_of w) ms
 
@@ -86,10 +90,12 @@ most_value op.Seek = Some limits.last_place
 most_value op.Loop = Some 1
 most_value _ = None
 
+-- the value up to the greatest one, and 0 where the op has none
 abbrev pub value_up_to : Place → Option ℕ → Members → Result ℕ SceneFault
 value_up_to p None ms = Ok 0
 value_up_to p (Some greatest) ms = number_at p (codes "value") (bounds which.Value 0 greatest) ms
 
+-- the value of an op
 unfoldable pub value_at : Place → OpWord → Members → Result ℕ SceneFault
 value_at p w ms = value_up_to p (most_value w) ms
 
@@ -123,14 +129,17 @@ known_edit p w k = do
   made ← edit_of p w k node
   Ok (record { at = k.at; editor = k.editor; edit = made })
 
+-- the edit of a row, by those before it, of which only the number matters
 unfoldable pub edit_row : List Node → List EditRow → Members → Result EditRow SceneFault
 edit_row nodes before ms = let p = place kinds.Edit (length before + 1) in do
   w ← op_word p ms
   keys ← edit_keys p nodes w ms
   known_edit p w keys
 
+-- the edits of rows, in order
 abbrev pub edit_rows : List Node → List Members → Result (List EditRow) SceneFault
 edit_rows nodes rows = each (edit_row nodes) [] rows
 
+-- the edits of a script, in the order of rows
 unfoldable pub edits : List Node → Members → Result (List EditRow) SceneFault
 edits nodes ms = rows_at kinds.Edit (codes "edit") which.Edits limits.most_edits ms >>= edit_rows nodes

@@ -18,9 +18,11 @@ pub record Header : Type 0 where
   pub width : ℕ
   pub length : ℕ
 
+-- the top level as a whole
 abbrev pub top : Place
 top = place kinds.Scene 0
 
+-- its keys
 abbrev pub top_keys : List (List ℕ)
 top_keys =
     codes "version" ∷ codes "rate" ∷ codes "channels" ∷ codes "width" ∷ codes "length"
@@ -42,6 +44,7 @@ width_of (negsuc n) = Err (Limit which.Width (negsuc n) (pos 24))
 unfoldable pub width_at : Members → Result ℕ SceneFault
 width_at ms = integer_at top (codes "width") ms >>= width_of
 
+-- the numbers, in the order of the form
 unfoldable pub numbers : Members → Result Header SceneFault
 numbers ms = do
   rate ← number_at top (codes "rate") (bounds which.Rate 1 limits.most_rate) ms

@@ -12,6 +12,7 @@ use Rattle.scene_script.specs.declared.op_word.OpWord.{OpWord}
 use Rattle.scene_script.specs.EditRows.{most_value}
 use Rattle.scene_script.specs.Headers.{Header}
 
+-- the numbers at the top
 pub record IsHeader (h : Header) : Type 0 where
   pub rate_least : 1 ≤ h.rate
   pub rate_most : h.rate ≤ limits.most_rate
@@ -32,10 +33,12 @@ abbrev pub IsTo : ℕ → To → Type 0
 IsTo nodes Nowhere = Unit {0}
 IsTo nodes (Named to) = IfSome to (λ n. n ≤ nodes)
 
+-- the keys of a bus row of that many nodes
 pub record IsBusKeys (nodes : ℕ) (b : BusKeys) : Type 0 where
   pub node_is : IfSome b.node (λ n. n < nodes)
   pub to_is : IsTo nodes b.to
 
+-- the keys of an edit of that op, of that many nodes
 pub record IsEditKeys (nodes : ℕ) (w : OpWord) (k : EditKeys) : Type 0 where
   pub at_most : k.at ≤ limits.most_frames
   pub node_is : IfSome k.node (λ n. n < nodes)

@@ -4,6 +4,7 @@ pub mod EditRows
 pub mod Fields
 pub mod FirstFault
 pub mod Headers
+pub mod Kept
 pub mod KeysRead
 pub mod Making
 pub mod Names

@@ -17,6 +17,7 @@ use Rattle.scene_script.specs.declared.place.Place.{Place}
 use Rattle.scene_script.specs.Checked.{◌>>=◌}
 use Rattle.scene_script.specs.Fields.{place}
 
+-- an edit with the row that stands for it
 abbrev pub placed : Place → Edit → PlacedEdit
 placed p edit = record { place = p; edit = edit }
 
@@ -43,5 +44,6 @@ abbrev pub all_done : PlanData → List PlacedEdit → Result (Unit {0}) SceneFa
 all_done plan [] = Ok tt
 all_done plan (e ∷ edits) = done plan e >>= λ is_done. all_done (after plan e.edit) edits
 
+-- all edits of a script are done, from the plan of its nodes alone on
 unfoldable pub wired : List Node → List BusRow → List EditRow → Result (Unit {0}) SceneFault
 wired nodes buses edits = all_done (unwired nodes) (all_edits buses edits)

@@ -24,12 +24,14 @@ use Rattle.scene_script.specs.Fields.{place, bounds, number_at, number_or, flag_
 use Rattle.scene_script.specs.Names.{endpoint, resource_at, known_name}
 use Rattle.scene_script.specs.TableRows.{rows_at}
 
+-- the kind that a word stands for
 abbrev pub word_of : Place → List ℕ → Result KindWord SceneFault
 word_of p text =
     if bytes_eq text (codes "sound") then Ok word.Sound
     else (if bytes_eq text (codes "group") then Ok word.Group
     else (if bytes_eq text (codes "splitter") then Ok word.Splitter else Err (WrongKind p.table p.row)))
 
+-- the word at `kind`
 unfoldable pub word_at : Place → Members → Result KindWord SceneFault
 word_at p ms = text_at p (codes "kind") ms >>= word_of p
 
@@ -41,6 +43,7 @@ keys_of word.Group = codes "kind" ∷ codes "name" ∷ codes "started" ∷ codes
 keys_of word.Splitter =
     codes "kind" ∷ codes "name" ∷ codes "outputs" ∷ codes "started" ∷ codes "from" ∷ codes "until" ∷ []
 
+-- there is no key but those of the kind
 unfoldable pub known_of : Place → KindWord → Members → Result (Unit {0}) SceneFault
 known_of p w ms = known_keys p (keys_of w) ms
 
@@ -51,18 +54,20 @@ kind_word p ms = do
   is_known ← known_of p w ms
   Ok w
 
--- the keys that only this kind has
+-- a sound's resource and whether it starts again at the end
 unfoldable pub sound_keys : Place → List Resource → Members → Result OwnKeys SceneFault
 sound_keys p resources ms = do
   resource ← resource_at p resources (codes "resource") ms
   looped ← flag_or p (codes "loop") false ms
   Ok (own.Sound resource looped)
 
+-- a splitter's number of outputs
 unfoldable pub splitter_keys : Place → Members → Result OwnKeys SceneFault
 splitter_keys p ms = do
   outputs ← number_at p (codes "outputs") (bounds which.Outputs limits.least_splitter_outputs limits.most_splitter_outputs) ms
   Ok (own.Splitter outputs)
 
+-- the same by the kind
 abbrev pub own_keys : Place → List Resource → KindWord → Members → Result OwnKeys SceneFault
 own_keys p resources word.Sound ms = sound_keys p resources ms
 own_keys p resources word.Group ms = Ok own.Group
@@ -99,6 +104,7 @@ node_row resources before ms = let p = place kinds.Node (length before + 1) in d
   kind ← kind_of p own
   Ok (record { name = name; kind = kind; started = active.started; from = active.from; until = active.until })
 
+-- the nodes of rows, in order
 abbrev pub node_rows : List Resource → List Members → Result (List Node) SceneFault
 node_rows resources rows = each (node_row resources) [] rows
 
@@ -108,6 +114,7 @@ few_buses nodes =
     if nat_lt limits.most_buses (bus_count nodes) then Err (Limit which.Buses (pos (bus_count nodes)) (pos limits.most_buses))
     else Ok tt
 
+-- the nodes of a script
 unfoldable pub nodes : List Resource → Members → Result (List Node) SceneFault
 nodes resources ms = do
   rows ← rows_at kinds.Node (codes "node") which.Nodes limits.most_nodes ms

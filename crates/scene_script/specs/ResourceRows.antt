@@ -20,6 +20,7 @@ file_of text =
     if nat_lt limits.most_file_bytes (length text) then Err (Limit which.FileName (pos (length text)) (pos limits.most_file_bytes))
     else (if nat_lt (length text) 1 then Err (Limit which.FileName (pos (length text)) (pos 1)) else Ok text)
 
+-- the name of the sound file
 unfoldable pub file_at : Place → Members → Result (List ℕ) SceneFault
 file_at p ms = text_at p (codes "file") ms >>= file_of
 
@@ -37,8 +38,10 @@ resource_row before ms = let p = place kinds.Resource (length before + 1) in do
   is_new ← new_resource p before name
   Ok (record { name = name; file = file })
 
+-- the resources of rows, in order
 abbrev pub resource_rows : List Members → Result (List Resource) SceneFault
 resource_rows rows = each resource_row [] rows
 
+-- the resources of a script
 unfoldable pub resources : Members → Result (List Resource) SceneFault
 resources ms = rows_at kinds.Resource (codes "resource") which.Resources limits.most_resources ms >>= resource_rows

@@ -15,6 +15,7 @@ use Rattle.scene_script.specs.Making.{wired}
 use Rattle.scene_script.specs.NodeRows as node_rows
 use Rattle.scene_script.specs.ResourceRows as resource_rows
 
+-- what the grammar of TOML makes of a text, if anything
 abbrev pub parsed : Option Members → Result Members SceneFault
 parsed None = Err NotToml
 parsed (Some ms) = Ok ms
@@ -35,5 +36,6 @@ scene_of ms = do
   is_wired ← wired nodes buses edits
   Ok (record { version = limits.version; rate = header.rate; channels = header.channels; width = header.width; length = header.length; resources = resources; nodes = nodes; buses = buses; edits = edits })
 
+-- the scene of a text
 unfoldable pub scene : List ℕ → Result SceneData SceneFault
 scene text = document text >>= scene_of

@@ -9,10 +9,12 @@ use Rattle.scene_script.specs.declared.place.Place.{Place}
 use Rattle.scene_script.specs.Checked.{◌>>=◌, each}
 use Rattle.scene_script.specs.Fields.{place, default_or}
 
+-- the items of an array as a list
 abbrev pub item_list : Items → List Data
 item_list no_items = []
 item_list (item d items) = d ∷ item_list items
 
+-- the table that a value is
 abbrev pub table_of : Place → Data → Result Members SceneFault
 table_of p (table ms) = Ok ms
 table_of p _ = Err (WrongKind p.table p.row)

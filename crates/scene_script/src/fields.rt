@@ -1,7 +1,6 @@
 ghost use Rattle.std.specs.Prelude.{◌≡◌, ◌≤◌, ◌<◌, ◌^◌, map, option_map, IfOk, IsTrue};
 ghost use Rattle.std.specs.BTreeMap.{keys};
 ghost use Rattle.std.specs.List.{list_all, list_any};
-ghost use Rattle.std.specs.Result.{result_map_both};
 ghost use Rattle.std.specs.Str.{bytes_eq};
 ghost use Rattle.std.specs.String.{string_bytes};
 ghost use Rattle.toml.specs.Data.{get_member};
@@ -33,6 +32,7 @@ pub(crate) fn known_keys(table: &Table, place: Place, known: &[&str]) -> Result<
     }
 }
 
+/// Whether a row has no key but the known ones.
 fn has_only_keys(table: &Table, known: &[&str]) -> bool
     ensures { result ≡ spec.has_only_keys (map (λ k. k.now) known.now) (table_view table.now) }
 {
@@ -101,6 +101,7 @@ pub(crate) fn output(table: &Table, place: Place) -> Result<u8, SceneFault>
     Ok(out as u8)
 }
 
+/// The integer that a value is, in its bounds.
 fn number_of(value: &Value, place: Place, bounds: Bounds) -> Result<u64, SceneFault>
     requires { bounds.most < 2 ^ 63 }
     ensures value { result ≡ spec.number_of place bounds (view value.now) }
@@ -152,6 +153,7 @@ pub(crate) fn text<'a>(table: &'a Table, place: Place, key: &str) -> Result<&'a 
     }
 }
 
+/// The text that a value is.
 fn text_of(value: &Value, place: Place) -> Result<&str, SceneFault>
     ensures { Reads result (spec.text_of place (view value.now)) }
 {
@@ -174,7 +176,7 @@ pub(crate) fn name<'a>(table: &'a Table, place: Place, key: &str) -> Result<&'a 
 }
 
 /// The name that a value is.
-pub(crate) fn name_of(value: &Value, place: Place) -> Result<&str, SceneFault>
+fn name_of(value: &Value, place: Place) -> Result<&str, SceneFault>
     ensures value { Reads result (spec.name_of place (view value.now)) }
     ensures is_name { IfOk result (λ name. IsTrue (is_name name.now)) }
 {

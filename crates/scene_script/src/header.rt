@@ -1,4 +1,4 @@
-ghost use Rattle.std.specs.Prelude.{◌≡◌, ◌≤◌, IfOk, IsTrue};
+ghost use Rattle.std.specs.Prelude.{◌≡◌, IfOk, IsTrue};
 ghost use Rattle.toml.specs.View.{table_view};
 ghost use Rattle.scene_model.specs.IsScene.{is_width};
 ghost use Rattle.scene_script.specs.Headers as spec;

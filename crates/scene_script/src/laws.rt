@@ -1,16 +1,21 @@
-ghost use Rattle.std.specs.Prelude.{◌≡◌, ◌↔◌, List, [], Err};
+ghost use Rattle.std.specs.Prelude.{◌≡◌, ◌↔◌, ◌++◌, ◌∷◌, ℕ, List, [], Ok, Err, map};
 ghost use Rattle.toml.specs.Data.{Members};
 ghost use Rattle.scene_model.specs.declared.node.Node.{Node};
 ghost use Rattle.scene_model.specs.declared.resource.Resource.{Resource};
+ghost use Rattle.scene_model.specs.Opening.{unwired};
 ghost use Rattle.scene_model.specs.PlanData.{PlanData};
+ghost use Rattle.scene_model.specs.SceneData.{SceneData};
 ghost use Rattle.scene_script.specs.declared.fault.SceneFault.{SceneFault};
 ghost use Rattle.scene_script.specs.declared.placed_edit.PlacedEdit.{PlacedEdit};
 ghost use Rattle.scene_script.specs.BusRows.{bus_row, bus_rows};
 ghost use Rattle.scene_script.specs.EditRows.{edit_row, edit_rows};
 ghost use Rattle.scene_script.specs.FirstFault.{HasFirst, RefusesFirst};
-ghost use Rattle.scene_script.specs.Making.{all_done};
+ghost use Rattle.scene_script.specs.Kept.{AreDistinct, AreDone};
+ghost use Rattle.scene_script.specs.Making.{all_done, all_edits};
+ghost use Rattle.scene_script.specs.Names.{endpoint};
 ghost use Rattle.scene_script.specs.NodeRows.{node_row, node_rows};
 ghost use Rattle.scene_script.specs.ResourceRows.{resource_row, resource_rows};
+ghost use Rattle.scene_script.specs.Script.{scene};
 
 /// A law: the rows of a kind have a fault exactly where some row has it, by what the rows before it
 /// give, and no row before it has one. The edits of a script are refused exactly where some edit is,
@@ -21,4 +26,17 @@ pub fn faults_are_the_first()
     ensures buses { (nodes : List Node) (rows : List Members) (f : SceneFault) → (bus_rows nodes rows ≡ Err f) ↔ HasFirst (bus_row nodes) [] rows f }
     ensures edits { (nodes : List Node) (rows : List Members) (f : SceneFault) → (edit_rows nodes rows ≡ Err f) ↔ HasFirst (edit_row nodes) [] rows f }
     ensures made { (plan : PlanData) (edits : List PlacedEdit) (f : SceneFault) → (all_done plan edits ≡ Err f) ↔ RefusesFirst plan edits f }
+{}
+
+/// A law: in a scene that was read no two resources have the same name, nor two nodes, and no node
+/// that of the endpoint.
+pub fn names_are_distinct()
+    ensures resources { (text : List ℕ) (s : SceneData) → scene text ≡ Ok s → AreDistinct (map (λ (r : Resource). r.name) s.resources) }
+    ensures nodes { (text : List ℕ) (s : SceneData) → scene text ≡ Ok s → AreDistinct (map (λ (n : Node). n.name) s.nodes ++ endpoint ∷ []) }
+{}
+
+/// A law: in a scene that was read each edit that a row stands for is done, in the plan after those
+/// before it.
+pub fn edits_are_done()
+    ensures { (text : List ℕ) (s : SceneData) → scene text ≡ Ok s → AreDone (unwired s.nodes) (all_edits s.buses s.edits) }
 {}

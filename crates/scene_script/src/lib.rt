@@ -45,6 +45,6 @@ mod script_error;
 mod table_rows;
 
 pub use fault::{SceneFault, TableKind, Which};
-pub use laws::faults_are_the_first;
+pub use laws::{edits_are_done, faults_are_the_first, names_are_distinct};
 pub use read::read_scene;
 pub use script_error::ScriptError;

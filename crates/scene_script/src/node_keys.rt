@@ -1,8 +1,8 @@
 ghost use Rattle.std.specs.Prelude.{◌≡◌, ◌≤◌, ◌<◌, IfOk, IsTrue, length};
 ghost use Rattle.toml.specs.View.{table_view};
 ghost use Rattle.scene_model.specs.IsScene.{is_kind, is_time};
-ghost use Rattle.scene_script.specs.NodeRows as spec;
 ghost use Rattle.scene_script.specs.KeysRead.{IsOwn};
+ghost use Rattle.scene_script.specs.NodeRows as spec;
 
 use crate::bounds::Bounds;
 use crate::fault::{SceneFault, Which};

@@ -3,7 +3,7 @@ ghost use Rattle.std.specs.Prelude.{◌≡◌};
 use crate::fault::{SceneFault, TableKind};
 
 /// A row of a script, by its table and its number there, from 1. Row 0 is the table as a whole.
-#[derive(Debug, Clone, Copy)]
+#[derive(Clone, Copy)]
 pub(crate) struct Place {
     pub(crate) table: TableKind,
     pub(crate) row: u32,

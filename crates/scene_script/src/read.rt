@@ -1,4 +1,3 @@
-ghost use Rattle.std.specs.Prelude.{◌≡◌, IfOk};
 ghost use Rattle.toml.specs.View.{table_view};
 ghost use Rattle.scene_script.specs.Checked.{Gives, GivesAs};
 ghost use Rattle.scene_script.specs.Script as spec;

@@ -1,5 +1,4 @@
-ghost use Rattle.std.specs.Prelude.{◌≡◌, ◌≤◌, map, IfOk, length, vec_len};
-ghost use Rattle.std.specs.Result.{result_map_both};
+ghost use Rattle.std.specs.Prelude.{◌≤◌, map, IfOk, vec_len};
 ghost use Rattle.toml.specs.View.{table_view, view};
 ghost use Rattle.scene_script.specs.Checked.{GivesAs};
 ghost use Rattle.scene_script.specs.Reads.{ReadsTable};
@@ -56,6 +55,7 @@ fn tables(alloc: Global, value: &Value, place: Place) -> Result<Vec<&Table>, Scr
     }
 }
 
+/// The values, each of which is a table.
 fn all_tables(alloc: Global, items: &[Value], place: Place) -> Result<Vec<&Table>, ScriptError>
     ensures { GivesAs (λ v. map (λ t. table_view t.now) v.items) result (spec.all_tables place (map view items.now)) }
 {
@@ -67,6 +67,7 @@ fn all_tables(alloc: Global, items: &[Value], place: Place) -> Result<Vec<&Table
     Ok(tables)
 }
 
+/// The table that a value is.
 fn table_of(value: &Value, place: Place) -> Result<&Table, SceneFault>
     ensures { ReadsTable result (spec.table_of place (view value.now)) }
 {

@@ -1,0 +1,5 @@
+use Rattle.scene_script.proofs.Kept.{edits_done}
+use Rattle.scene_script.proofs.laws.edits_are_done.Goals as goal
+
+pub returns : goal.returns
+returns c = edits_done

@@ -1,5 +1,5 @@
 //! Runs `scenetool`'s commands over a store in memory.
-ghost use Rattle.std.specs.Prelude.{◌≡◌, ◌≤◌, ◌<◌, ◌^◌, None, length};
+ghost use Rattle.std.specs.Prelude.{◌≡◌, ◌≤◌, ◌<◌, ◌^◌, None, IfOk, length};
 ghost use Rattle.snd_io.specs.SureFiles.{sure_writing};
 
 use plain_data::OutOfMemory;
@@ -97,9 +97,7 @@ pub fn mixed(
     script: &str,
     files: &[(&str, &[u8])],
 ) -> Result<(Vec<u8>, Vec<u8>), OutOfMemory> {
-    let mut depot = SureDepot::new(alloc)?;
-    depot.set(alloc, "scene.toml", script.as_bytes())?;
-    put_files(alloc, &mut depot, files)?;
+    let mut depot = depot_of(alloc, script, files)?;
     let (_, text) = run(alloc, &mut depot, &["mix", "scene.toml", "out.wav"])?;
     let out = match depot.file("out.wav") {
         Some(bytes) => Vec::from_slice(alloc, bytes)?,
@@ -108,19 +106,20 @@ pub fn mixed(
     Ok((out, text))
 }
 
-/// Sets files.
-pub fn put_files(
+/// A store with a script and files with these names.
+pub fn depot_of(
     alloc: Global,
-    depot: &mut SureDepot,
+    script: &str,
     files: &[(&str, &[u8])],
-) -> Result<(), OutOfMemory>
-    requires { sure_writing depot.old ≡ None }
-    ensures { sure_writing depot.new ≡ None }
+) -> Result<SureDepot, OutOfMemory>
+    ensures { IfOk result (λ depot. sure_writing depot ≡ None) }
 {
+    let mut depot = SureDepot::new(alloc)?;
+    depot.set(alloc, "scene.toml", script.as_bytes())?;
     for (name, bytes) in files {
         depot.set(alloc, name, bytes)?;
     }
-    Ok(())
+    Ok(depot)
 }
 
 /// The bytes behind the header of a WAVE file.

@@ -100,8 +100,9 @@ fn a_short_block_and_a_count_of_frames_end_the_sound(rt: HostRuntime) -> Result<
 
 /// The sample of 16 bits at a place of samples.
 fn sample_at(samples: &[u8], place: usize) -> Option<i16> {
-    let low = *samples.get(place * 2)?;
-    let high = *samples.get(place * 2 + 1)?;
+    let at = place.checked_mul(2)?;
+    let low = *samples.get(at)?;
+    let high = *samples.get(at.checked_add(1)?)?;
     Some(i16::from_le_bytes([low, high]))
 }
 

@@ -1,11 +1,11 @@
 -- The sound files.
-use Rattle.std.specs.Prelude.{◌≡◌, ℕ, zero, suc, ◌+◌, ◌*◌, ◌/◌, ◌%◌, nat_lt, if◌then◌else◌, ℤ, pos, ◌-ℤ◌, ◌*ℤ◌, List, [], ◌∷◌, ◌++◌, map, codes, refl}
+use Rattle.std.specs.Prelude.{◌≡◌, ℕ, zero, suc, ◌+◌, ◌*◌, ◌%◌, nat_lt, if◌then◌else◌, ℤ, pos, ◌-ℤ◌, ◌*ℤ◌, List, ◌∷◌, ◌++◌, map, codes, refl}
 use Rattle.std.specs.Fmt.{decimal}
 use Rattle.std.specs.List.{range_with_len}
 use Rattle.std.proofs.Common.{ap, arith}
 use Rattle.wave_write.specs.Header.{header}
 use Rattle.wave_write.specs.Samples.{packed}
-use Rattle.gen_scene.specs.Draws.{draw}
+use Rattle.gen_scene.specs.Draws.{draw, state, state-resumed}
 
 abbrev pub sounds : ℕ
 sounds = 8
@@ -30,8 +30,11 @@ first_draw zero = 0
 first_draw (suc i) = first_draw i + sound_samples i
 
 -- a sample of 16 bits is a draw less 32768, here as a sample of 24 bits
+abbrev pub sample_of : ℕ → ℤ
+sample_of number = (pos number -ℤ pos 32768) *ℤ pos 256
+
 abbrev pub noise_sample : ℕ → ℕ → ℤ
-noise_sample number n = (pos (draw number n) -ℤ pos 32768) *ℤ pos 256
+noise_sample number n = sample_of (draw number n)
 
 -- the samples that so many draws from draw `from` on are
 abbrev pub noise : ℕ → ℕ → ℕ → List ℤ
@@ -40,6 +43,14 @@ noise number from count = map (noise_sample number) (range_with_len from count)
 unfoldable pub sound_file : ℕ → ℕ → List ℕ
 sound_file number i =
     header (sound_channels i) (sound_rate i) 16 sound_frames ++ packed 16 (noise number (first_draw i) (sound_samples i))
+
+-- the bytes of so many samples, from the first draw of a state on
+unfoldable pub noise_bytes : ℕ → ℕ → List ℕ
+noise_bytes start count = packed 16 (noise start 0 count)
+
+-- a sound file by the state after the draws before it
+abbrev pub sound_from : ℕ → ℕ → List ℕ
+sound_from start i = header (sound_channels i) (sound_rate i) 16 sound_frames ++ noise_bytes start (sound_samples i)
 
 -- PREFIX-I.wav
 abbrev pub sound_name : List ℕ → ℕ → List ℕ
@@ -57,6 +68,21 @@ numbers-join f a (suc m) n =
     let k : a + 1 + m ≡ a + suc m = omega arith in
     rw (e, ← k) (ap (λ xs. f a ∷ xs) (numbers-join f (a + 1) m n))
 
+-- samples from a draw on are those of the state there, from its first draw on
+pub noise-resumed : (number n count : ℕ) → noise (state number n) 0 count ≡ noise number n count
+noise-resumed number n count = shifted count 0 n (omega arith)
+  where
+    shifted : (count a b : ℕ) → n + a ≡ b → map (noise_sample (state number n)) (range_with_len a count) ≡ map (noise_sample number) (range_with_len b count)
+    shifted zero a b is = refl
+    shifted (suc count) a b is =
+        rw (state-resumed number n a, is) (ap (λ xs. noise_sample number b ∷ xs) (shifted count (a + 1) (b + 1) (omega arith)))
+
 -- samples that follow one another
 pub noise-join : (number from m n : ℕ) → noise number from (m + n) ≡ noise number from m ++ noise number (from + m) n
 noise-join number from m n = numbers-join (noise_sample number) from m n
+
+-- a sound by the state before it is the sound
+pub sound_from-is : (number i : ℕ) → sound_from (state number (first_draw i)) i ≡ sound_file number i
+unfolding sound_file noise_bytes
+sound_from-is number i =
+    ap (λ samples. header (sound_channels i) (sound_rate i) 16 sound_frames ++ packed 16 samples) (noise-resumed number (first_draw i) (sound_samples i))

@@ -1,4 +1,4 @@
-ghost use Rattle.std.specs.Prelude.{◌≡◌, ◌+◌, ◌<◌, ◌^◌, ℕ, pos, ◌-ℤ◌, ◌*ℤ◌, length, All};
+ghost use Rattle.std.specs.Prelude.{◌≡◌, pos, ◌-ℤ◌, ◌*ℤ◌, length, All};
 ghost use Rattle.gen_scene.specs.Draws.{state, stepped, drawn};
 ghost use Rattle.gen_scene.specs.Sounds as spec;
 ghost use Rattle.mix_fixed.specs.Sound.{Is24};
@@ -8,8 +8,8 @@ use crate::draws::Draws;
 /// Fills `out` with samples of noise in 24 bits, each of 16 bits with eight more low bits, which are
 /// 0: one draw each, in order.
 pub fn noise(draws: &mut Draws, out: &mut [i32])
-    ensures value { (number n : ℕ) → draws.old ≡ state number n → out.new ≡ spec.noise number n (length out.old) }
-    ensures draws { (number n : ℕ) → draws.old ≡ state number n → draws.new ≡ state number (n + length out.old) }
+    ensures value { out.new ≡ spec.noise draws.old 0 (length out.old) }
+    ensures draws { draws.new ≡ state draws.old (length out.old) }
     ensures range { All Is24 out.new }
 {
     for i in 0..out.len() {

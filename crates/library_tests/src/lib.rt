@@ -1,5 +1,6 @@
 //! The tests of the libraries below the commands: worked examples, tables of inputs, and each
-//! public call once on its happy path.
+//! public call once on its happy path, by itself or through a call above it. The laws, which do
+//! nothing, are left out. Reading scenes from scripts has a crate of tests of its own.
 #![tactic(auto)]
 
 #[cfg(test)]
@@ -7,11 +8,19 @@ mod clips;
 #[cfg(test)]
 mod g711_codes;
 #[cfg(test)]
+mod heard_clips;
+#[cfg(test)]
 mod ima_blocks;
+#[cfg(test)]
+mod page_walks;
 #[cfg(test)]
 mod plans;
 #[cfg(test)]
 mod rates;
+#[cfg(test)]
+mod scene_values;
+#[cfg(test)]
+mod sound_files;
 #[cfg(test)]
 mod wave_files;
 #[cfg(test)]

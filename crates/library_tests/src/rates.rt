@@ -119,7 +119,9 @@ fn walk(rt: &impl Abort, fit: &Fit, from: u64) {
 #[test]
 fn rates_have_the_lengths_points_and_blends_that_were_worked_out(rt: HostRuntime) {
     for (rin, rout, frames, len) in LENGTHS {
-        assert_eq!(rt; fit(&rt, rin, rout, frames).len(), len, "{rin} to {rout}");
+        let fit = fit(&rt, rin, rout, frames);
+        assert_eq!(rt; (fit.rin(), fit.rout()), (rin, rout));
+        assert_eq!(rt; fit.len(), len, "{rin} to {rout}");
     }
     for (rin, rout, frames, n, first, weight) in POINTS {
         let found = point(&rt, &fit(&rt, rin, rout, frames), n);

@@ -12,6 +12,10 @@ scenetool renders scenes of sound to WAVE files.
   scenetool mix SCENE OUT    reads the script SCENE and the sound files that it names,
                              and writes the WAVE file OUT; the paths are 1 to 255 bytes
   scenetool info FILE        tells what the WAVE file FILE says of its sound
+  scenetool gen NUMBER PREFIX
+                             writes a large scene that follows from NUMBER, 0 to 4294967295:
+                             the sounds PREFIX-0.wav to PREFIX-7.wav and the script PREFIX.toml;
+                             PREFIX is 1 to 64 letters, digits, `_`, `-`, `.` and `/`
   scenetool --help           prints this text
   scenetool --version        prints the version
 

@@ -1,3 +1,5 @@
 pub mod FileSets
 pub mod Lines
+pub mod Numbers
 pub mod Outcomes
+pub mod Sets

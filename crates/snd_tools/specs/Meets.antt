@@ -1,9 +1,12 @@
 -- What each status says of the files and of the text that was printed.
-use Rattle.std.specs.Prelude.{◌≡◌, ◌⊎◌, ℕ, List, [], ◌∷◌, Result, Ok, Err, string_bytes}
+use Rattle.std.specs.Prelude.{◌≡◌, ◌⊎◌, ℕ, List, [], ◌∷◌, Some, Result, Ok, Err, string_bytes}
+use Rattle.std.specs.Option.{option_map}
 use Rattle.std.specs.Global.{Global}
 use Rattle.std.specs.Prelude.{String}
 use Rattle.snd_io.specs.Answers.{IsPrefix}
-use Rattle.snd_io.specs.Files.{Files, put_file}
+use Rattle.snd_io.specs.declared.answers.Put.{Put}
+use Rattle.snd_io.specs.declared.answers.Put.TheVariants.{Done as PutDone, Failed as PutFailed, OutOfMemory as PutOutOfMemory}
+use Rattle.snd_io.specs.Files.{Files, Told, put_file}
 use Rattle.snd_status.specs.declared.status.Status.{Status}
 use Rattle.snd_status.specs.declared.status.Status.TheVariants.{Done, OutOfMemory, Usage, DepotFault, Absent, TooLong, Script, File, TextFault}
 use Rattle.snd_tools.specs.Outcome.{Output, Outcome, Report, status_line}
@@ -20,6 +23,15 @@ IsWrittenInPart (output ∷ outputs) before after =
     (after ≡ before)
     ⊎ (((part : List ℕ) × IsPrefix part output.bytes × (after ≡ put_file output.name part before))
     ⊎ IsWrittenInPart outputs (put_file output.name output.bytes before) after)
+
+-- each output is set; or, where the files are told, the outputs are set in part
+abbrev pub IsSetInPart : List Output → Told → Told → Type 0
+IsSetInPart outputs old new = (before : Files) → old ≡ Some before → (after : Files) × (new ≡ Some after) × IsWrittenInPart outputs before after
+
+abbrev pub SetsAll : Put → List Output → Told → Told → Type 0
+SetsAll PutDone outputs old new = new ≡ option_map (put_all outputs) old
+SetsAll PutFailed outputs old new = IsSetInPart outputs old new
+SetsAll PutOutOfMemory outputs old new = IsSetInPart outputs old new
 
 -- where there is no refusal, the outputs may be written in part
 abbrev pub IsLeft : Outcome → Files → Files → Type 0

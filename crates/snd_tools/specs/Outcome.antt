@@ -1,6 +1,7 @@
 -- What a command comes to, from its words and from the files: the first refusal, or the files that are to be written and
 -- the line that is to be printed.
-use Rattle.std.specs.Prelude.{ℕ, ℤ, List, [], ◌∷◌, ◌++◌, length, Result, Ok, Err}
+use Rattle.std.specs.Prelude.{ℕ, ℤ, List, [], ◌∷◌, ◌++◌, map, length, codes, Result, Ok, Err}
+use Rattle.std.specs.List.{range_with_len}
 use Rattle.std.specs.FinMap.{get}
 use Rattle.wave_read.specs.declared.wave.Wave.{Wave}
 use Rattle.clip_decode.specs.Pages.{page_count}
@@ -8,12 +9,14 @@ use Rattle.scene_model.specs.SceneData.{SceneData}
 use Rattle.mix_model.specs.Output.{wav}
 use Rattle.mix_model.specs.Mix.{mix}
 use Rattle.mix_model.specs.Rendering.{summary_of}
+use Rattle.gen_scene.specs.Script.{script, script_from, script_name}
+use Rattle.gen_scene.specs.Sounds.{sounds, sound_file, sound_name}
 use Rattle.snd_io.specs.Files.{Files}
 use Rattle.snd_status.specs.declared.mix_report.MixReport.{MixReport}
 use Rattle.snd_status.specs.declared.status.Status.{Status}
 use Rattle.snd_status.specs.declared.status.Status.TheVariants.{Usage}
 use Rattle.snd_status.specs.Texts.{mix_text, wave_text, status_text}
-use Rattle.snd_tools.specs.Commands.{Command, Mix, Info, command}
+use Rattle.snd_tools.specs.Commands.{Command, Mix, Info, Gen, command}
 use Rattle.snd_tools.specs.Reading.{◌>>=◌, file_read, most_sound_bytes, scene_read, sounds_read, surveyed}
 
 -- a file that is to be written
@@ -96,9 +99,31 @@ info_outcome files file = do
   text ← file_read most_sound_bytes file (get files file) >>= waves_line
   Ok (only_line text)
 
+-- `gen`: the sound files of the scene of a number, and then its script
+abbrev pub sound_output : ℕ → List ℕ → ℕ → Output
+sound_output number prefix i = record { name = sound_name prefix i; bytes = sound_file number i }
+
+-- the first sound files of the scene
+unfoldable pub sound_outputs : ℕ → List ℕ → ℕ → List Output
+sound_outputs number prefix count = map (sound_output number prefix) (range_with_len 0 count)
+
+-- the script, by the state after the draws of the sounds
+abbrev pub script_outputs : ℕ → List ℕ → List Output
+script_outputs start prefix = record { name = script_name prefix; bytes = script_from start prefix } ∷ []
+
+abbrev pub gen_outputs : ℕ → List ℕ → List Output
+gen_outputs number prefix = sound_outputs number prefix sounds ++ record { name = script_name prefix; bytes = script number prefix } ∷ []
+
+abbrev pub gen_line : List ℕ
+gen_line = line (codes "files 9")
+
+abbrev pub gen_outcome : ℕ → List ℕ → Outcome
+gen_outcome number prefix = Ok (record { outputs = gen_outputs number prefix; line = gen_line })
+
 abbrev pub command_outcome : Files → Command → Outcome
 command_outcome files (Mix scene out) = mix_outcome files scene out
 command_outcome files (Info file) = info_outcome files file
+command_outcome files (Gen number prefix) = gen_outcome number prefix
 
 -- the outcome of the program
 abbrev pub outcome : List (List ℕ) → Files → Outcome

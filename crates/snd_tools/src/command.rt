@@ -1,9 +1,8 @@
 ghost use Rattle.std.specs.Prelude.{◌≡◌, map, string_bytes};
-ghost use Rattle.snd_tools.specs.Commands.{is_path, mix_words, info_words, command};
+ghost use Rattle.snd_tools.specs.Commands.{mix_words, info_words, gen_words, command};
 ghost use Rattle.snd_tools.specs.CommandsRead.{GivesCommand};
 
-/// The most bytes of a path.
-const MAX_PATH_BYTES: usize = 255;
+use crate::words::{is_path, is_prefix, read_number};
 
 /// What the words after the program's name ask for.
 #[derive(Clone, Copy)]
@@ -12,6 +11,8 @@ pub(crate) enum Command<'a> {
     Mix { scene: &'a str, out: &'a str },
     /// `info FILE`: tells what the WAVE file FILE says of its sound.
     Info { file: &'a str },
+    /// `gen NUMBER PREFIX`: writes the scene of a number, and its sound files.
+    Gen { number: u32, prefix: &'a str },
 }
 
 /// Reads the words after the program's name, or gives the place of the first word that doesn't fit.
@@ -21,6 +22,7 @@ pub(crate) fn read_command(words: &[String]) -> Result<Command<'_>, u32>
     match words.split_first() {
         Some((word, rest)) if word.as_str() == "mix" => read_mix_words(rest),
         Some((word, rest)) if word.as_str() == "info" => read_info_words(rest),
+        Some((word, rest)) if word.as_str() == "gen" => read_gen_words(rest),
         _ => Err(0),
     }
 }
@@ -31,7 +33,7 @@ fn read_mix_words(words: &[String]) -> Result<Command<'_>, u32>
 {
     match words {
         [] => Err(1),
-        [_] => Err(2),
+        [_scene] => Err(2),
         [scene, out] => {
             if !is_path(scene.as_str()) {
                 Err(1)
@@ -67,8 +69,26 @@ fn read_info_words(words: &[String]) -> Result<Command<'_>, u32>
     }
 }
 
-fn is_path(word: &str) -> bool
-    ensures { result ≡ is_path word.now }
+/// Reads the words after `gen`.
+fn read_gen_words(words: &[String]) -> Result<Command<'_>, u32>
+    ensures { GivesCommand result (gen_words (map string_bytes words.now)) }
 {
-    1 <= word.len() && word.len() <= MAX_PATH_BYTES
+    match words {
+        [] => Err(1),
+        [_number] => Err(2),
+        [number, prefix] => match read_number(number.as_str()) {
+            Some(number) => {
+                if is_prefix(prefix.as_str()) {
+                    Ok(Command::Gen {
+                        number,
+                        prefix: prefix.as_str(),
+                    })
+                } else {
+                    Err(2)
+                }
+            }
+            None => Err(1),
+        },
+        _ => Err(3),
+    }
 }

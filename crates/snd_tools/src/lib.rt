@@ -5,12 +5,14 @@
 mod command;
 mod disk_depot;
 mod fetching;
+mod generating;
 mod info;
 mod mix;
 mod rendering;
 mod telling;
 mod text_out;
 mod tool;
+mod words;
 mod writing;
 
 pub use disk_depot::DiskDepot;

@@ -6,6 +6,7 @@ ghost use Rattle.snd_tools.specs.Outcome.{outcome};
 ghost use Rattle.snd_tools.specs.Reading.{can_stop, stopped_by_depot};
 
 use crate::command::{Command, read_command};
+use crate::generating::generate;
 use crate::info::info;
 use crate::mix::mix;
 use crate::telling::tell;
@@ -17,7 +18,8 @@ use std::alloc::Global;
 /// line on what it came to.
 ///
 /// `mix SCENE OUT` reads the scene's script SCENE and its sound files from the depot and writes OUT,
-/// the WAVE file of the scene. `info FILE` tells what a WAVE file says of its sound.
+/// the WAVE file of the scene. `info FILE` tells what a WAVE file says of its sound. `gen NUMBER PREFIX`
+/// writes the sound files and the script of the scene of a number.
 pub fn run_tool<D: Depot, T: Sink>(
     alloc: Global,
     words: &[String],
@@ -49,6 +51,7 @@ fn carry_out<D: Depot>(alloc: Global, words: &[String], depot: &mut D) -> Result
     match read_command(words) {
         Ok(Command::Mix { scene, out }) => mix(alloc, depot, scene, out),
         Ok(Command::Info { file }) => info(alloc, depot, file),
+        Ok(Command::Gen { number, prefix }) => generate(alloc, depot, number, prefix),
         Err(word) => Err(Status::Usage { word }),
     }
 }

@@ -15,3 +15,8 @@ returns-in-Ok-Info-clause-told g c = λ before told.
 
 pub returns-in-Err-clause-told : goal.returns-in-Err-clause-told
 returns-in-Err-clause-told g c = λ before told. (before, told, (ap (λ r. usage r >>= command_outcome before) c.in-Err.ensures, refl))
+
+pub returns-in-Ok-Gen-clause-told : goal.returns-in-Ok-Gen-clause-told
+returns-in-Ok-Gen-clause-told g c = λ before told.
+    let done = c.generate.ensures.told before told in
+    (done.0, done.1, rw (c.in-Ok-Gen.ensures, c.in-Ok-Gen.field-0-is) done.2)

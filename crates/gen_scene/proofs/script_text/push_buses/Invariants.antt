@@ -1,0 +1,12 @@
+use Rattle.std.proofs.Common.{◌≡◌, ◌++◌, string_bytes}
+use Rattle.gen_scene.specs.Draws.{state}
+use Rattle.gen_scene.specs.Script.{rows, group_bus_lines, player_bus}
+use Rattle.gen_scene.proofs.script_text.push_buses.Given as goal
+
+abbrev pub invariant-loop-j : goal.invariant-loop-j
+invariant-loop-j l = string_bytes l.text ≡ string_bytes l.fn.text ++ rows l.j group_bus_lines
+
+abbrev pub invariant-loop-k : goal.invariant-loop-k
+invariant-loop-k l =
+    (string_bytes l.text ≡ string_bytes l.initial.text ++ rows l.k (player_bus l.fn.draws))
+    × (l.draws ≡ state l.fn.draws l.k)

@@ -1,0 +1,6 @@
+use Rattle.std.proofs.Common.{◌≡◌, ◌++◌, string_bytes}
+use Rattle.gen_scene.specs.Script.{rows, top_lines, resource_lines}
+use Rattle.gen_scene.proofs.script_text.script.Given as goal
+
+abbrev pub invariant-loop-i : goal.invariant-loop-i
+invariant-loop-i l = string_bytes l.text ≡ top_lines ++ rows l.i (resource_lines l.prefix)

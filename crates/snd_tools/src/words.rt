@@ -1,0 +1,59 @@
+ghost use Rattle.std.specs.Prelude.{◌≡◌};
+ghost use Rattle.snd_tools.specs.Commands as spec;
+
+/// The most bytes of a path.
+const MAX_PATH_BYTES: usize = 255;
+
+/// The most bytes of the names that generated files begin with.
+const MAX_PREFIX_BYTES: usize = 64;
+
+/// The most digits of a number.
+const MAX_DIGITS: usize = 10;
+
+pub(crate) fn is_path(word: &str) -> bool
+    ensures { result ≡ spec.is_path word.now }
+{
+    1 <= word.len() && word.len() <= MAX_PATH_BYTES
+}
+
+/// Whether a word is 1 to 64 bytes, each an ASCII letter or digit, `_`, `-`, `.` or `/`.
+pub(crate) fn is_prefix(word: &str) -> bool
+    ensures { result ≡ spec.is_prefix word.now }
+{
+    1 <= word.len() && word.len() <= MAX_PREFIX_BYTES && has_only_prefix_bytes(word)
+}
+
+fn has_only_prefix_bytes(word: &str) -> bool
+    ensures { result ≡ spec.has_only_prefix_bytes word.now }
+{
+    word.bytes().all(|byte| is_prefix_byte(byte))
+}
+
+fn is_prefix_byte(byte: u8) -> bool
+    ensures { result ≡ spec.is_prefix_byte byte }
+{
+    byte.is_ascii_alphanumeric() || matches!(byte, b'_' | b'-' | b'.' | b'/')
+}
+
+/// The number of a word of 1 to 10 digits, which is at most 4294967295.
+pub(crate) fn read_number(word: &str) -> Option<u32>
+    ensures { result ≡ spec.number word.now }
+{
+    if is_numeral(word) {
+        word.parse().ok()
+    } else {
+        None
+    }
+}
+
+fn is_numeral(word: &str) -> bool
+    ensures { result ≡ spec.is_numeral word.now }
+{
+    1 <= word.len() && word.len() <= MAX_DIGITS && has_only_digits(word)
+}
+
+fn has_only_digits(word: &str) -> bool
+    ensures { result ≡ spec.has_only_digits word.now }
+{
+    word.bytes().all(|byte| byte.is_ascii_digit())
+}

@@ -5,6 +5,8 @@
 #[cfg(test)]
 mod fakes;
 #[cfg(test)]
+mod generated;
+#[cfg(test)]
 mod infos;
 #[cfg(test)]
 mod limits;

@@ -95,6 +95,18 @@ const USAGES: &[(&[&str], &str)] = &[
     (&["info"], "usage: word 1\n"),
     (&["info", ""], "usage: word 1\n"),
     (&["info", "", "b"], "usage: word 2\n"),
+    (&["gen"], "usage: word 1\n"),
+    (&["gen", "x"], "usage: word 2\n"),
+    (&["gen", "1", "g", "h"], "usage: word 3\n"),
+    (&["gen", "", "g"], "usage: word 1\n"),
+    (&["gen", "+1", "g"], "usage: word 1\n"),
+    (&["gen", "1a", "g"], "usage: word 1\n"),
+    (&["gen", "4294967296", "g"], "usage: word 1\n"),
+    (&["gen", "00000000001", "g"], "usage: word 1\n"),
+    (&["gen", "x", "g h"], "usage: word 1\n"),
+    (&["gen", "1", ""], "usage: word 2\n"),
+    (&["gen", "1", "g h"], "usage: word 2\n"),
+    (&["gen", "1", "g:"], "usage: word 2\n"),
 ];
 
 #[test]

@@ -147,7 +147,7 @@ impl Player {
         let wires = self.wires.as_slice();
         let clips = self.clips.as_slice();
         let cursors = self.cursors.as_slice();
-        let sums = self.sums.as_mut_slice();
+        let sums = &mut self.sums.as_mut_slice()[..=nodes.len()];
         for channel in 0..scene.channels {
             inputs(nodes, wires, clips, cursors, self.time, channel, sums);
             samples.push(sat24(sums[nodes.len()]))?;
@@ -162,7 +162,7 @@ impl Player {
         ensures next { (self.new.time ≡ self.old.time + 1) × (self.new.clips.items ≡ self.old.clips.items) }
     {
         let nodes = self.plan.nodes();
-        let marks = self.marks.as_mut_slice();
+        let marks = &mut self.marks.as_mut_slice()[..=nodes.len()];
         pull(nodes, self.wires.as_slice(), self.time, marks);
         advance(
             nodes,

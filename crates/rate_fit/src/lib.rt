@@ -3,7 +3,7 @@
 //! A [`Fit`] says how many frames a clip has at another rate, and between which two frames of the
 //! clip each of them lies: a [`Point`]. A [`Walker`] gives the same points one after the other and
 //! divides nowhere. [`blend`] is the linear interpolation at a point, rounded down, and an
-//! [`Interpolator`] the same at one rate without a division. [`to_channels`] brings a frame to one
+//! [`Interpolator`] the same at one rate without a division, and the points too. [`to_channels`] brings a frame to one
 //! or two channels.
 #![tactic(auto)]
 

@@ -17,12 +17,13 @@ pub fn channel_of(frame: &[i32], channels: u8, channel: u8) -> i32
     ensures value { result ≡ slice_index_or (in_channels channels frame.now) channel (pos 0) }
     ensures range { Is24 result }
 {
+    if frame.len() == 1 {
+        return frame[0];
+    }
     if channels == 1 {
         let mut out = [0i32; 1];
         to_channels(frame, &mut out);
         return out[0];
     }
-    let mut out = [0i32; 2];
-    to_channels(frame, &mut out);
-    out[usize::from(channel)]
+    frame[usize::from(channel)]
 }

@@ -22,16 +22,20 @@ pub struct SceneClip {
     fit: Fit,
     interpolator: Interpolator,
     channels: u8,
+    /// The length of `fit`, which costs a division.
+    len: u64,
 }
 
 impl Model for SceneClip {
+    ghost use Rattle.std.specs.Prelude.{◌≡◌};
+    ghost use Rattle.rate_fit.specs.Conversion.{length_of};
     ghost use Rattle.scene_clips.specs.SceneClipData.{SceneClipData, IsSceneClip};
 
     ghost Value = { SceneClipData };
 
     ghost view = { λ s. record { bytes = s.clip.bytes; rate = s.fit.rout; channels = s.channels } };
 
-    ghost invariant = { λ s. IsSceneClip s.clip s.pages.items s.fit s.interpolator s.channels };
+    ghost invariant = { λ s. (IsSceneClip s.clip s.pages.items s.fit s.interpolator s.channels) × (s.len ≡ length_of s.fit) };
 }
 
 /// All pages of a clip.
@@ -88,6 +92,7 @@ impl SceneClip {
             fit,
             interpolator: Interpolator::new(rate),
             channels,
+            len: fit.len(),
         })
     }
 
@@ -106,7 +111,7 @@ impl SceneClip {
         ensures value { result ≡ clip_length self.now.bytes self.now.rate }
         ensures most { result ≤ 2 ^ 28 * 768000 }
     {
-        self.fit.len()
+        self.len
     }
 
     /// The sample of a channel in a frame of the file, both counted from 0, in the scene's channels
@@ -145,7 +150,7 @@ impl SceneClip {
             ≡ clip_sample self.now.bytes self.now.rate self.now.channels n channel }
         ensures range { Is24 result }
     {
-        let point = self.fit.at(n);
+        let point = self.interpolator.at(&self.fit, n);
         let first = self.sample_in_file(point.first, channel);
         if point.weight == 0 {
             return first;

@@ -1,4 +1,7 @@
 //! `gen`: the files that it writes, what is left of them where a call fails, and their mix.
+ghost use Rattle.std.specs.Prelude.{◌≡◌, None, IfOk};
+ghost use Rattle.snd_io.specs.MemFiles.{mem_writing};
+
 use crate::programs::{ends, is_bytes, run};
 use plain_data::OutOfMemory;
 use snd_io::{MemDepot, Snag, SureDepot};
@@ -105,11 +108,12 @@ const FAULTS: &[(u32, u32, usize, Option<usize>)] = &[
     (566, 9, 8, Some(9)),
 ];
 
-/// How many bytes of a file there are.
+/// How many bytes a file has.
 fn size(depot: &MemDepot, name: &str) -> Option<usize> {
     depot.file(name).map(|bytes| bytes.len())
 }
 
+/// The name of the file that follows the first `i`.
 fn next_name(alloc: Global, i: usize) -> Result<String, AllocError> {
     if i < 8 {
         sound_name(alloc, i)
@@ -118,7 +122,10 @@ fn next_name(alloc: Global, i: usize) -> Result<String, AllocError> {
     }
 }
 
-fn failing(alloc: Global, call: u32, taken: u32) -> Result<MemDepot, OutOfMemory> {
+/// A store that fails at this call, which takes so many bytes.
+fn failing(alloc: Global, call: u32, taken: u32) -> Result<MemDepot, OutOfMemory>
+    ensures { IfOk result (λ depot. mem_writing depot ≡ None) }
+{
     let mut depot = MemDepot::new(alloc)?;
     let snag = Snag {
         appends_only: false,

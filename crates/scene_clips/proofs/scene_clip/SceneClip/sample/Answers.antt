@@ -8,20 +8,20 @@ use Rattle.scene_clips.specs.ClipFrames.{all_in_channels, sample_or_zero}
 use Rattle.scene_clips.proofs.Rates.{fit_length, blended_is, first_alone}
 use Rattle.scene_clips.proofs.scene_clip.SceneClip.sample.Goals as goal
 
-pub at-point-requires : goal.at-point-requires
-at-point-requires c =
+pub at-point-requires-clause-frame : goal.at-point-requires-clause-frame
+at-point-requires-clause-frame c =
     let inside = c.self.inside in
-    let kept = c.self.invariant in
+    let kept = c.self.invariant.0 in
     rw (← fit_length inside.clip.bytes inside.clip.wave inside.fit kept.surveyed kept.rin kept.frames)
     (rw (← c.self.view_is) at c.requires.frame)
 
 pub overflow_add-point : goal.overflow_add-point
-overflow_add-point c = omega (arith, c.at-point.ensures.inside, c.self.invariant.conversion.short)
+overflow_add-point c = omega (arith, c.at-point.ensures.inside, c.self.invariant.0.conversion.short)
 
 pub returns-then-point-eq0-clause-value : goal.returns-then-point-eq0-clause-value
 returns-then-point-eq0-clause-value c =
     let inside = c.self.inside in
-    let kept = c.self.invariant in
+    let kept = c.self.invariant.0 in
     let first = c.sample_in_file-first.result in
     let second = sample_or_zero (all_in_channels inside.channels (frames inside.clip.bytes)) (c.at-point.result.first + 1) c.args.channel in
     let fits : FitsSigned w32 first = search rules in
@@ -34,7 +34,7 @@ returns-then-point-eq0-clause-value c =
 pub returns-clause-value : goal.returns-clause-value
 returns-clause-value c =
     let inside = c.self.inside in
-    let kept = c.self.invariant in
+    let kept = c.self.invariant.0 in
     let first = c.sample_in_file-first.result in
     let second = c.sample_in_file-second.result in
     let fits : FitsSigned w32 c.blend.result = search rules in

@@ -2,7 +2,7 @@
 ghost use Rattle.std.specs.Prelude.{◌≡◌, None, IfOk};
 ghost use Rattle.snd_io.specs.MemFiles.{mem_writing};
 
-use crate::programs::{ends, is_bytes, run};
+use crate::programs::{data_of, ends, run};
 use plain_data::OutOfMemory;
 use snd_io::{MemDepot, Snag, SureDepot};
 use std::alloc::{AllocError, Global};
@@ -35,14 +35,16 @@ fn sound_name(alloc: Global, i: usize) -> Result<String, AllocError> {
     format!(in alloc; "g-{i}.wav")
 }
 
-/// Whether a file is the header of a sound, a first sample, others, and a last sample.
-fn is_sound(file: Option<&[u8]>, channels: u8, rate: u32, first: i16, last: i16) -> bool {
+/// Whether a file is the header of sound `i`, a first sample, others, and a last sample.
+fn is_sound(file: Option<&[u8]>, i: usize, first: i16, last: i16) -> bool {
     let Some(bytes) = file else {
         return false;
     };
+    let channels = if i % 2 == 0 { 1 } else { 2 };
+    let rate = if i < 4 { 44_100 } else { 48_000 };
     bytes.len() == 44 + 441_000 * usize::from(channels)
         && bytes.starts_with(&header(channels, rate, 16, 220_500))
-        && bytes[44..].starts_with(&first.to_le_bytes())
+        && data_of(bytes).starts_with(&first.to_le_bytes())
         && bytes.ends_with(&last.to_le_bytes())
 }
 
@@ -53,10 +55,8 @@ fn the_scene_of_a_number_is_nine_files(rt: HostRuntime) -> Result<(), Fail> {
     assert!(rt; ends(alloc, &mut depot, &["gen", "1", "g"], 0, "files 9\n")?);
     for (i, (first, last)) in SAMPLES.iter().enumerate() {
         let name = sound_name(alloc, i)?;
-        let channels = 1 + (i % 2) as u8;
-        let rate = if i < 4 { 44_100 } else { 48_000 };
         assert!(rt;
-            is_sound(depot.file(name.as_str()), channels, rate, *first, *last),
+            is_sound(depot.file(name.as_str()), i, *first, *last),
             "{i}"
         );
     }

@@ -1,21 +1,13 @@
 /* What crates/page_bench does, in C: decodes the same sound, a page of 8192 frames at a time, and prints the same
    number.
    Usage: pages KIND ROUNDS, where KIND is pcm16, pcm24 or alaw (stereo) or ima (mono, in blocks of 256 bytes). */
+#include "ima_step.h"
 #include <stdint.h>
 #include <stdio.h>
 #include <stdlib.h>
 #include <string.h>
 
-enum { SOUND_BYTES = 4194304, PAGE_FRAMES = 8192, BLOCK_BYTES = 256, BLOCK_FRAMES = 505, STEP_INDICES = 89 };
-
-static const uint16_t STEPS[STEP_INDICES] = {
-    7, 8, 9, 10, 11, 12, 13, 14, 16, 17, 19, 21, 23, 25, 28, 31, 34, 37, 41, 45, 50, 55, 60, 66, 73,
-    80, 88, 97, 107, 118, 130, 143, 157, 173, 190, 209, 230, 253, 279, 307, 337, 371, 408, 449, 494,
-    544, 598, 658, 724, 796, 876, 963, 1060, 1166, 1282, 1411, 1552, 1707, 1878, 2066, 2272, 2499,
-    2749, 3024, 3327, 3660, 4026, 4428, 4871, 5358, 5894, 6484, 7132, 7845, 8630, 9493, 10442,
-    11487, 12635, 13899, 15289, 16818, 18500, 20350, 22385, 24623, 27086, 29794, 32767,
-};
-static const int8_t CHANGES[8] = { -1, -1, -1, -1, 2, 4, 6, 8 };
+enum { SOUND_BYTES = 4194304, PAGE_FRAMES = 8192, BLOCK_BYTES = 256, BLOCK_FRAMES = 505 };
 
 static int16_t alaw_values[256];
 static uint8_t sound[SOUND_BYTES];
@@ -51,22 +43,7 @@ static void decode_alaw(const uint8_t *from, size_t samples, int32_t *out)
 }
 
 /* A decoder of IMA ADPCM, and the frame of the sound that it comes to next. */
-struct ima { int predictor, index; size_t frame; };
-
-/* As decoders in use have it: a test for each bit of the code. */
-static inline int32_t ima_step(struct ima *d, unsigned code)
-{
-    int size = STEPS[d->index];
-    int difference = size >> 3;
-    if (code & 4) difference += size;
-    if (code & 2) difference += size >> 1;
-    if (code & 1) difference += size >> 2;
-    int p = code & 8 ? d->predictor - difference : d->predictor + difference;
-    d->predictor = p < -32768 ? -32768 : p > 32767 ? 32767 : p;
-    int i = d->index + CHANGES[code & 7];
-    d->index = i < 0 ? 0 : i > 88 ? 88 : i;
-    return d->predictor * 256;
-}
+struct ima { struct decoder decoder; size_t frame; };
 
 /* Decodes the frames that come next, block by block. The first may stand inside a block. */
 __attribute__((noinline))
@@ -81,14 +58,14 @@ static void decode_ima(struct ima *kept, size_t frames, int32_t *out)
         d.frame += count;
         frames -= count;
         if (f == 0) {
-            d.predictor = (int16_t)(block[0] | block[1] << 8);
-            d.index = block[2];
-            *out++ = d.predictor * 256;
+            d.decoder.predictor = (int16_t)(block[0] | block[1] << 8);
+            d.decoder.index = block[2];
+            *out++ = d.decoder.predictor * 256;
             f = 1;
         }
         for (; f < end; f++) {
             uint8_t codes = block[4 + (f - 1) / 2];
-            *out++ = ima_step(&d, f % 2 == 1 ? codes & 15 : codes >> 4);
+            *out++ = step(&d.decoder, f % 2 == 1 ? codes & 15 : codes >> 4) * 256;
         }
     }
     *kept = d;
@@ -132,7 +109,7 @@ int main(int argc, char **argv)
     make_alaw_values();
     make_sound(kind);
     for (size_t r = 0; r < rounds; r++) {
-        struct ima ima = { 0, 0, 0 };
+        struct ima ima = { { 0, 0 }, 0 };
         for (size_t first = 0; first < all; first += PAGE_FRAMES) {
             size_t frames = all - first < PAGE_FRAMES ? all - first : PAGE_FRAMES;
             samples = decode_page(kind, first, frames, &ima);

@@ -4,6 +4,7 @@
    It reads what the workloads of bench/run.sh hold, and trusts it: scripts of `[[table]]` and `key = value` lines that
    scenetool takes, and WAVE files of PCM, G.711 and IMA ADPCM whose chunks lie whole in the file. Statuses: 0 done,
    2 other words, 4 a file that isn't there, 1 anything else. */
+#include "ima_step.h"
 #include <stdbool.h>
 #include <stdint.h>
 #include <stdio.h>
@@ -268,27 +269,6 @@ static int32_t from_ulaw(uint8_t code)
     return (c & 0x80 ? -size : size) * 256;
 }
 
-static const uint16_t STEPS[89] = {
-    7, 8, 9, 10, 11, 12, 13, 14, 16, 17, 19, 21, 23, 25, 28, 31, 34, 37, 41, 45, 50, 55, 60, 66, 73, 80, 88, 97, 107, 118,
-    130, 143, 157, 173, 190, 209, 230, 253, 279, 307, 337, 371, 408, 449, 494, 544, 598, 658, 724, 796, 876, 963, 1060,
-    1166, 1282, 1411, 1552, 1707, 1878, 2066, 2272, 2499, 2749, 3024, 3327, 3660, 4026, 4428, 4871, 5358, 5894, 6484, 7132,
-    7845, 8630, 9493, 10442, 11487, 12635, 13899, 15289, 16818, 18500, 20350, 22385, 24623, 27086, 29794, 32767,
-};
-static const int8_t CHANGES[8] = { -1, -1, -1, -1, 2, 4, 6, 8 };
-
-static int ima_step(int *predictor, int *index, unsigned code)
-{
-    int size = STEPS[*index], difference = size >> 3;
-    if (code & 4) difference += size;
-    if (code & 2) difference += size >> 1;
-    if (code & 1) difference += size >> 2;
-    int p = code & 8 ? *predictor - difference : *predictor + difference;
-    *predictor = p < -32768 ? -32768 : p > 32767 ? 32767 : p;
-    int i = *index + CHANGES[code & 7];
-    *index = i < 0 ? 0 : i > 88 ? 88 : i;
-    return *predictor;
-}
-
 static uint64_t ima_frames(uint64_t bytes, unsigned channels)
 {
     return bytes < 4 * channels ? 0 : 1 + 8 * ((bytes - 4 * channels) / (4 * channels));
@@ -298,14 +278,14 @@ static uint64_t ima_frames(uint64_t bytes, unsigned channels)
 static void decode_ima(const uint8_t *block, uint64_t frames, unsigned channels, int32_t *out, const char *name)
 {
     for (unsigned c = 0; c < channels; c++) {
-        int predictor = (int16_t)le(block + 4 * c, 2), index = block[4 * c + 2];
-        if (index > 88) fail(1, "step index", name);
+        struct decoder d = { (int16_t)le(block + 4 * c, 2), block[4 * c + 2] };
+        if (d.index > 88) fail(1, "step index", name);
         const uint8_t *codes = block + 4 * channels + 4 * c;
-        out[c] = predictor * 256;
+        out[c] = d.predictor * 256;
         for (uint64_t f = 1; f < frames; f++) {
             uint64_t k = f - 1; /* eight codes a word, and the words of the channels in turn */
             uint8_t both = codes[k / 8 * 4 * channels + k % 8 / 2];
-            out[f * channels + c] = ima_step(&predictor, &index, k & 1 ? both >> 4 : both & 15) * 256;
+            out[f * channels + c] = step(&d, k & 1 ? both >> 4 : both & 15) * 256;
         }
     }
 }

@@ -65,34 +65,34 @@ pub fn put(out: &mut [i16], ch: u8, f: usize, c: u8, sample: i16)
     out[f * usize::from(ch) + usize::from(c)] = sample;
 }
 
-/// Goes on with channel `c` of a block: runs `state`, the decoder before code `codes.start`, over
-/// the channel's codes `codes`, and writes the sample of each into `out`, interleaved, the first
-/// one into frame `at`. Code `j` makes frame `j + 1` of the block.
+/// Goes on with channel `c` of a block: runs `before`, the decoder before code `codes.start`, over
+/// the channel's codes `codes`, writes the sample of each into `out`, interleaved, the first one
+/// into frame `at`, and answers the decoder after them. Code `j` makes frame `j + 1` of the block.
 pub fn channel_into(
     block: &[u8],
     ch: u8,
     c: u8,
     codes: Range<usize>,
-    state: &mut Ima,
+    before: Ima,
     out: &mut [i16],
     at: usize,
-)
+) -> Ima
     requires channel { c < ch }
     requires there { codes.end < block_frames (length block.now) ch }
     requires room { (at + (codes.end - codes.start)) * ch ≤ length out.old }
     ensures { ChannelRun block.now ch c codes.start (codes.end - codes.start) at
-        state.old state.new out.old out.new }
+        before result out.old out.new }
 {
     if codes.end.saturating_sub(codes.start) < 2 * WORD_CODES {
-        return codes_into(block, ch, c, codes, state, out, at);
+        return codes_into(block, ch, c, codes, before, out, at);
     }
     let groups = codes.start.div_ceil(WORD_CODES)..codes.end / WORD_CODES;
     let whole = WORD_CODES * groups.start..WORD_CODES * groups.end;
     let middle = at + (whole.start - codes.start);
     let last = at + (whole.end - codes.start);
-    codes_into(block, ch, c, codes.start..whole.start, state, out, at);
-    words_into(block, ch, c, groups, state, out, middle);
-    codes_into(block, ch, c, whole.end..codes.end, state, out, last);
+    let decoder = codes_into(block, ch, c, codes.start..whole.start, before, out, at);
+    let decoder = words_into(block, ch, c, groups, decoder, out, middle);
+    codes_into(block, ch, c, whole.end..codes.end, decoder, out, last)
 }
 
 /// The same, code by code.
@@ -101,20 +101,22 @@ fn codes_into(
     ch: u8,
     c: u8,
     codes: Range<usize>,
-    state: &mut Ima,
+    before: Ima,
     out: &mut [i16],
     at: usize,
-)
+) -> Ima
     requires channel { c < ch }
     requires there { codes.end < block_frames (length block.now) ch }
     requires room { (at + (codes.end - codes.start)) * ch ≤ length out.old }
     ensures { ChannelRun block.now ch c codes.start (codes.end - codes.start) at
-        state.old state.new out.old out.new }
+        before result out.old out.new }
 {
+    let mut decoder = before;
     for j in codes.start..codes.end {
-        let sample = state.step(code(block, ch, c, j));
+        let sample = decoder.step(code(block, ch, c, j));
         put(out, ch, at + (j - codes.start), c, sample);
     }
+    decoder
 }
 
 /// The same for the channel's words in the groups `groups`.
@@ -123,41 +125,46 @@ fn words_into(
     ch: u8,
     c: u8,
     groups: Range<usize>,
-    state: &mut Ima,
+    before: Ima,
     out: &mut [i16],
     at: usize,
-)
+) -> Ima
     requires channel { c < ch }
     requires there { word_codes * groups.end < block_frames (length block.now) ch }
     requires room { (at + word_codes * (groups.end - groups.start)) * ch ≤ length out.old }
     ensures { ChannelRun block.now ch c (word_codes * groups.start) (word_codes * (groups.end - groups.start)) at
-        state.old state.new out.old out.new }
+        before result out.old out.new }
 {
+    let mut decoder = before;
     for group in groups.start..groups.end {
-        word_into(
-            block,
-            ch,
-            c,
-            group,
-            state,
-            out,
-            at + WORD_CODES * (group - groups.start),
-        );
+        let first = at + WORD_CODES * (group - groups.start);
+        decoder = word_into(block, ch, c, group, decoder, out, first);
     }
+    decoder
 }
 
 /// The same for the channel's word in one group.
-fn word_into(block: &[u8], ch: u8, c: u8, group: usize, state: &mut Ima, out: &mut [i16], at: usize)
+fn word_into(
+    block: &[u8],
+    ch: u8,
+    c: u8,
+    group: usize,
+    before: Ima,
+    out: &mut [i16],
+    at: usize,
+) -> Ima
     requires channel { c < ch }
     requires there { word_codes * group + word_codes < block_frames (length block.now) ch }
     requires room { (at + word_codes) * ch ≤ length out.old }
-    ensures { ChannelRun block.now ch c (word_codes * group) word_codes at state.old state.new out.old out.new }
+    ensures { ChannelRun block.now ch c (word_codes * group) word_codes at before result out.old out.new }
 {
+    let mut decoder = before;
     let word = word(block, ch, c, group);
     for i in 0..WORD_CODES {
-        let sample = state.step(code_in(word, i));
+        let sample = decoder.step(code_in(word, i));
         put(out, ch, at + i, c, sample);
     }
+    decoder
 }
 
 /// Writes all frames of one channel, whose header has an index of the step table.
@@ -169,11 +176,11 @@ fn whole_channel_into(block: &[u8], ch: u8, c: u8, frames: usize, out: &mut [i16
     requires room { frames * ch ≤ length out.old }
     ensures { ChannelWritten ch c 0 frames (block_sample block.now ch c) out.old out.new }
 {
-    let Some(mut state) = header(block, c) else {
+    let Some(first) = header(block, c) else {
         unreachable!()
     };
-    put(out, ch, 0, c, state.predictor());
-    words_into(block, ch, c, 0..frames / WORD_CODES, &mut state, out, 1);
+    put(out, ch, 0, c, first.predictor());
+    words_into(block, ch, c, 0..frames / WORD_CODES, first, out, 1);
 }
 
 /// Decodes a block of `ch` channels, 1 to 8: writes its frames into `out`, interleaved (the sample

@@ -5,8 +5,7 @@
 //! Compatibility in Multimedia Systems" (revision 3.00), the layout of a block that of the WAVE
 //! form of IMA ADPCM (tag 0x11) in Microsoft's "Multiple Channel Audio Data and WAVE Files". A
 //! [`Ima`] is one channel's decoder. [`block_into`] writes the frames of a whole block, and
-//! [`part_into`] those of a part, for a reader that stops inside a block and goes on; [`header`],
-//! [`channel_into`] and [`code`] do the same for one channel.
+//! [`part_into`] those of a part, for a reader that stops inside a block and goes on.
 //!
 //! A contract places each code by its number; the code reads the words of a channel one after the
 //! other. [`samples_are_predictors`] and [`run_can_be_resumed`] tie the two
@@ -21,9 +20,8 @@ mod part;
 mod quantizer;
 mod word;
 
-pub use block::{block_frames, block_into, channel_into, header};
+pub use block::{block_frames, block_into};
 pub use fault::ImaFault;
 pub use ima::Ima;
 pub use laws::{run_can_be_resumed, samples_are_predictors};
 pub use part::part_into;
-pub use word::code;

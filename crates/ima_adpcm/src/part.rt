@@ -9,56 +9,48 @@ use crate::block::{channel_into, header, put};
 use crate::ima::Ima;
 use std::ops::Range;
 
-/// Writes frames 0 to `count - 1` of one channel, and leaves its decoder at the last of them.
-fn channel_start_into(block: &[u8], ch: u8, c: u8, count: usize, decoder: &mut Ima, out: &mut [i16])
+/// Writes frames 0 to `count - 1` of one channel, and answers its decoder at the last of them.
+fn channel_start_into(block: &[u8], ch: u8, c: u8, count: usize, out: &mut [i16]) -> Ima
     requires channel { c < ch }
     requires some { 0 < count }
     requires there { count ≤ block_frames (length block.now) ch }
     requires sound { header_index block.now c ≤ last_index }
     requires room { count * ch ≤ length out.old }
-    ensures decoder { decoder.new ≡ block_state block.now ch c (count - 1) }
+    ensures decoder { result ≡ block_state block.now ch c (count - 1) }
     ensures written { ChannelWritten ch c 0 count (block_sample block.now ch c) out.old out.new }
 {
     let Some(first) = header(block, c) else {
         unreachable!()
     };
-    *decoder = first;
     put(out, ch, 0, c, first.predictor());
-    channel_into(block, ch, c, 0..count - 1, decoder, out, 1);
+    channel_into(block, ch, c, 0..count - 1, first, out, 1)
 }
 
-/// Writes the frames `frames` of one channel, whose decoder stands at the frame before them, and
-/// leaves it at the last of them.
+/// Writes the frames `frames` of one channel, whose decoder before the first of them is `before`,
+/// and answers its decoder at the last of them.
 fn channel_part_into(
     block: &[u8],
     ch: u8,
     c: u8,
     frames: Range<usize>,
-    decoder: &mut Ima,
+    before: Ima,
     out: &mut [i16],
-)
+) -> Ima
     requires channel { c < ch }
     requires some { frames.start < frames.end }
     requires there { frames.end ≤ block_frames (length block.now) ch }
     requires sound { header_index block.now c ≤ last_index }
-    requires stands { 0 < frames.start → decoder.old ≡ block_state block.now ch c (frames.start - 1) }
+    requires stands { 0 < frames.start → before ≡ block_state block.now ch c (frames.start - 1) }
     requires room { (frames.end - frames.start) * ch ≤ length out.old }
-    ensures decoder { decoder.new ≡ block_state block.now ch c (frames.end - 1) }
+    ensures decoder { result ≡ block_state block.now ch c (frames.end - 1) }
     ensures written { ChannelWritten ch c 0 (frames.end - frames.start)
         (λ i. block_sample block.now ch c (frames.start + i)) out.old out.new }
 {
     if frames.start == 0 {
-        return channel_start_into(block, ch, c, frames.end, decoder, out);
+        return channel_start_into(block, ch, c, frames.end, out);
     }
-    channel_into(
-        block,
-        ch,
-        c,
-        frames.start - 1..frames.end - 1,
-        decoder,
-        out,
-        0,
-    );
+    let codes = frames.start - 1..frames.end - 1;
+    channel_into(block, ch, c, codes, before, out, 0)
 }
 
 /// Decodes the frames `frames` of a block of `ch` channels to the front of `out`, interleaved: the
@@ -79,7 +71,14 @@ pub fn part_into(block: &[u8], ch: u8, frames: Range<usize>, decoders: &mut [Ima
         (λ f c. block_sample block.now ch c (frames.start + f)) out.new }
 {
     for c in 0..ch {
-        let decoder = &mut decoders[usize::from(c)];
-        channel_part_into(block, ch, c, frames.start..frames.end, decoder, out);
+        let before = decoders[usize::from(c)];
+        decoders[usize::from(c)] = channel_part_into(
+            block,
+            ch,
+            c,
+            frames.start..frames.end,
+            before,
+            out,
+        );
     }
 }

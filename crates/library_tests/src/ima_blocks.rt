@@ -1,6 +1,6 @@
 //! Blocks of IMA ADPCM that were worked out by hand from the recommendation's tables.
 
-use ima_adpcm::{Ima, ImaFault, block_frames, block_into, channel_into, code, header};
+use ima_adpcm::{Ima, ImaFault, block_frames, block_into, part_into};
 use std::process::Abort;
 use std::test::Fail;
 
@@ -138,21 +138,35 @@ fn the_first_index_above_88_is_named_and_nothing_is_written(rt: HostRuntime) {
     }
 }
 
+/// Decodes a block of one channel in three parts, which end before the frames `first`, `second` and
+/// `frames`, the number of all.
+fn decode_in_parts(
+    rt: &impl Abort,
+    block: &[u8],
+    [first, second, frames]: [usize; 3],
+    out: &mut [i16; ROOM],
+) -> Option<()> {
+    assert!(rt; 0 < first);
+    assert!(rt; first < second);
+    assert!(rt; second < frames);
+    assert!(rt; frames <= ROOM);
+    assert!(rt; 4 <= block.len());
+    assert!(rt; block[2] <= 88);
+    assert!(rt; frames <= block_frames(block.len(), 1));
+    let mut decoders = [Ima::new(0, 0)?];
+    part_into(block, 1, 0..first, &mut decoders, out);
+    part_into(block, 1, first..second, &mut decoders, &mut out[first..]);
+    part_into(block, 1, second..frames, &mut decoders, &mut out[second..]);
+    Some(())
+}
+
 #[test]
-fn a_run_that_stops_and_goes_on_is_the_whole_run(rt: HostRuntime) -> Result<(), Fail> {
+fn a_block_in_parts_is_the_whole_block(rt: HostRuntime) -> Result<(), Fail> {
     let mut whole = [UNTOUCHED; ROOM];
     assert_eq!(rt; decode(&rt, &LONG, 1, &mut whole), Ok(41));
-    for (first, second) in [(0, 40), (3, 4), (5, 31), (8, 24), (40, 40)] {
-        let mut state = header(&LONG, 0).ok_or("a sound header")?;
+    for (first, second) in [(1, 40), (4, 5), (6, 32), (9, 25), (39, 40)] {
         let mut out = [UNTOUCHED; ROOM];
-        out[0] = state.predictor();
-        channel_into(&LONG, 1, 0, 0..first, &mut state, &mut out, 1);
-        channel_into(&LONG, 1, 0, first..second, &mut state, &mut out, first + 1);
-        assert!(rt; second <= 40);
-        for j in second..40 {
-            let sample = state.step(code(&LONG, 1, 0, j));
-            out[j + 1] = sample;
-        }
+        decode_in_parts(&rt, &LONG, [first, second, 41], &mut out).ok_or("a decoder")?;
         assert_eq!(rt; out, whole, "{first} and {second}");
     }
     Ok(())

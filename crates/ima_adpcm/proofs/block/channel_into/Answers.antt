@@ -10,12 +10,12 @@ returns c =
     let last = 8 * (c.args.codes.end / 8) in
     let words : 8 * (c.args.codes.end / 8 - c.div_ceil.result) ≡ last - first = omega arith in
     run-join c.args.block.now c.args.ch c.args.c c.args.codes.start last c.args.codes.end c.args.at
-    c.args.state.now c.words_into.new.state c.codes_into-3.new.state c.args.out.now c.words_into.new.out c.codes_into-3.new.out
+    c.args.before c.words_into-decoder.result c.codes_into-2.result c.args.out.now c.words_into-decoder.new.out c.codes_into-2.new.out
     c.requires.channel (omega arith) (omega arith)
     (run-join c.args.block.now c.args.ch c.args.c c.args.codes.start first last c.args.at
-    c.args.state.now c.codes_into-2.new.state c.words_into.new.state c.args.out.now c.codes_into-2.new.out c.words_into.new.out
-    c.requires.channel (omega arith) (omega arith) c.codes_into-2.ensures
+    c.args.before c.codes_into-decoder.result c.words_into-decoder.result c.args.out.now c.codes_into-decoder.new.out c.words_into-decoder.new.out
+    c.requires.channel (omega arith) (omega arith) c.codes_into-decoder.ensures
     (subst (λ n. ChannelRun c.args.block.now c.args.ch c.args.c first n (c.args.at + (first - c.args.codes.start))
-    c.codes_into-2.new.state c.words_into.new.state c.codes_into-2.new.out c.words_into.new.out)
-    words c.words_into.ensures))
-    c.codes_into-3.ensures
+    c.codes_into-decoder.result c.words_into-decoder.result c.codes_into-decoder.new.out c.words_into-decoder.new.out)
+    words c.words_into-decoder.ensures))
+    c.codes_into-2.ensures

@@ -10,7 +10,7 @@ pub loop-j-init : goal.loop-j-init
 loop-j-init c =
     let none : c.args.codes.start - c.args.codes.start ≡ 0 = omega arith in
     rw none (
-      run-none c.args.block.now c.args.ch c.args.c c.args.codes.start c.args.at c.args.state.now c.args.out.now,
+      run-none c.args.block.now c.args.ch c.args.c c.args.codes.start c.args.at c.args.before c.args.out.now,
       omega arith,
     )
 
@@ -22,7 +22,7 @@ loop-j-preserved c =
     let fits : FitsSigned w16 c.step-sample.result = search rules in
     rw count (
       run-more c.args.block.now c.args.ch c.args.c c.args.codes.start n c.args.at c.code.result _
-          c.args.state.now c.loop-j.state c.step-sample.new.self c.args.out.now c.loop-j.out c.put.new.out
+          c.args.before c.loop-j.decoder c.step-sample.new.self c.args.out.now c.loop-j.out c.put.new.out
           c.requires.channel c.loop-j.invariant.0
           (c.code.ensures.value ∙ ap (code_at c.args.block.now c.args.ch c.args.c) number)
           c.step-sample.ensures.state c.put.ensures

@@ -23,12 +23,12 @@ returns c =
     omega (arith, c.requires.frames, block_frames-whole (length c.args.block.now) c.args.ch c.requires.headers) in
     let count : 8 * (c.args.frames / 8) ≡ c.args.frames - 1 =
     omega (arith, c.requires.frames, block_frames-whole (length c.args.block.now) c.args.ch c.requires.headers) in
-    let start : c.in-Some.state ≡ header c.args.block.now c.args.c = c.in-Some.ensures.some in
+    let start : c.in-Some.first ≡ header c.args.block.now c.args.c = c.in-Some.ensures.some in
     let fits : FitsSigned w16 c.predictor.result = search rules in
     written-first c.args.ch c.args.c c.args.frames (block_sample c.args.block.now c.args.ch c.args.c)
-    (samples_after c.args.block.now c.args.ch c.args.c 0 c.in-Some.state) _ c.args.out.now c.put.new.out c.words_into.new.out
+    (samples_after c.args.block.now c.args.ch c.args.c 0 c.in-Some.first) _ c.args.out.now c.put.new.out c.words_into.new.out
     c.requires.channel some c.put.ensures
-    (subst (λ n. ChannelWritten c.args.ch c.args.c 1 n (samples_after c.args.block.now c.args.ch c.args.c 0 c.in-Some.state)
+    (subst (λ n. ChannelWritten c.args.ch c.args.c 1 n (samples_after c.args.block.now c.args.ch c.args.c 0 c.in-Some.first)
     c.put.new.out c.words_into.new.out)
     count (simp sub-zero at c.words_into.ensures.written))
     (to_z-of_z w16 c.predictor.result fits ∙ c.predictor.ensures ∙ ap (λ s. s.predictor) start

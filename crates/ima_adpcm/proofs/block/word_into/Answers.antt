@@ -14,13 +14,13 @@ word-word-requires c =
 
 pub loop-i-init : goal.loop-i-init
 loop-i-init c =
-    run-none c.args.block.now c.args.ch c.args.c (8 * c.args.group) c.args.at c.args.state.now c.args.out.now
+    run-none c.args.block.now c.args.ch c.args.c (8 * c.args.group) c.args.at c.args.before c.args.out.now
 
 pub loop-i-preserved : goal.loop-i-preserved
 loop-i-preserved c =
     let fits : FitsSigned w16 c.step-sample.result = search rules in
     run-more c.args.block.now c.args.ch c.args.c (8 * c.args.group) c.loop-i.i c.args.at c.code_in.result _
-    c.args.state.now c.loop-i.state c.step-sample.new.self c.args.out.now c.loop-i.out c.put.new.out
+    c.args.before c.loop-i.decoder c.step-sample.new.self c.args.out.now c.loop-i.out c.put.new.out
     c.requires.channel c.loop-i.invariant
     (c.code_in.ensures.value ∙ c.word-word.ensures c.loop-i.i (omega arith))
     c.step-sample.ensures.state c.put.ensures

@@ -5,4 +5,4 @@ use Rattle.ima_adpcm.proofs.block.word_into.Given as goal
 
 abbrev pub invariant-loop-i : goal.invariant-loop-i
 invariant-loop-i l =
-    ChannelRun l.block l.ch l.c (8 * l.group) l.i l.at l.initial.state l.state l.initial.out l.out
+    ChannelRun l.block l.ch l.c (8 * l.group) l.i l.at l.fn.before l.decoder l.initial.out l.out

@@ -8,7 +8,7 @@ pub loop-group-init : goal.loop-group-init
 loop-group-init c =
     let none : 8 * (c.args.groups.start - c.args.groups.start) ≡ 0 = omega arith in
     rw none (
-      run-none c.args.block.now c.args.ch c.args.c (8 * c.args.groups.start) c.args.at c.args.state.now c.args.out.now,
+      run-none c.args.block.now c.args.ch c.args.c (8 * c.args.groups.start) c.args.at c.args.before c.args.out.now,
       omega arith,
     )
 
@@ -19,11 +19,11 @@ loop-group-preserved c =
     let from : 8 * c.loop-group.group ≡ 8 * c.args.groups.start + n = omega arith in
     rw count (
       run-append c.args.block.now c.args.ch c.args.c (8 * c.args.groups.start) n 8 c.args.at
-          c.args.state.now c.loop-group.state c.word_into.new.state c.args.out.now c.loop-group.out c.word_into.new.out
+          c.args.before c.loop-group.decoder c.word_into-decoder.result c.args.out.now c.loop-group.out c.word_into-decoder.new.out
           c.requires.channel c.loop-group.invariant.0
           (subst (λ k. ChannelRun c.args.block.now c.args.ch c.args.c k 8 (c.args.at + n)
-          c.loop-group.state c.word_into.new.state c.loop-group.out c.word_into.new.out)
-          from c.word_into.ensures),
+          c.loop-group.decoder c.word_into-decoder.result c.loop-group.out c.word_into-decoder.new.out)
+          from c.word_into-decoder.ensures),
       omega (arith, c.loop-group.invariant.1),
     )
 

@@ -21,9 +21,9 @@ returns-clause-written c =
     let from = c.args.frames.start - 1 in
     let count : c.args.frames.end - 1 - from ≡ c.args.frames.end - c.args.frames.start = omega arith in
     written-as c.args.ch c.args.c 0 (c.args.frames.end - c.args.frames.start)
-    (samples_after c.args.block.now c.args.ch c.args.c from c.args.decoder.now)
+    (samples_after c.args.block.now c.args.ch c.args.c from c.args.before)
     (λ i. block_sample c.args.block.now c.args.ch c.args.c (c.args.frames.start + i)) c.args.out.now c.channel_into.new.out
-    (subst (λ n. ChannelWritten c.args.ch c.args.c 0 n (samples_after c.args.block.now c.args.ch c.args.c from c.args.decoder.now)
+    (subst (λ n. ChannelWritten c.args.ch c.args.c 0 n (samples_after c.args.block.now c.args.ch c.args.c from c.args.before)
     c.args.out.now c.channel_into.new.out)
     count c.channel_into.ensures.written)
     (λ i.

@@ -11,10 +11,6 @@ use Rattle.gen_scene.specs.Draws.{state, state-resumed, state-start}
 use Rattle.wave_write.specs.Header.{header}
 use Rattle.gen_scene.specs.Sounds.{noise, noise_bytes, noise-join, noise-resumed, sound_channels, sound_rate, sound_samples}
 
-pub IfSome-map : {A : Type 0} {P Q : A → Type 0} (o : Option A) → ((x : A) → P x → Q x) → IfSome o P → IfSome o Q
-IfSome-map None f h = tt
-IfSome-map (Some x) f h = f x h
-
 pub IfSome-both : {A : Type 0} {P Q R : A → Type 0} (o : Option A) → ((x : A) → P x → Q x → R x) → IfSome o P → IfSome o Q → IfSome o R
 IfSome-both None f p q = tt
 IfSome-both (Some x) f p q = f x p q

@@ -29,7 +29,7 @@ top_lines =
     line (codes "version = 1") ++ line (codes "rate = 48000") ++ line (codes "channels = 2") ++ line (codes "width = 24")
     ++ line (codes "length = 480000")
 
--- the lines of the rows numbered from 0 to count
+-- the lines of the rows with the numbers below count
 unfoldable pub rows : ℕ → (ℕ → List ℕ) → List ℕ
 rows count lines = flat_map lines (range_with_len 0 count)
 

@@ -3,6 +3,7 @@ use Rattle.std.specs.Prelude.{◌≡◌, ℕ, zero, suc, ◌+◌, ◌*◌, ◌%�
 use Rattle.std.specs.Fmt.{decimal}
 use Rattle.std.specs.List.{range_with_len}
 use Rattle.std.proofs.Common.{ap, arith}
+use Rattle.plain_data.proofs.Lists.{map_range-join}
 use Rattle.wave_write.specs.Header.{header}
 use Rattle.wave_write.specs.Samples.{packed}
 use Rattle.gen_scene.specs.Draws.{draw, state, state-resumed}
@@ -58,16 +59,6 @@ sound_name prefix i = prefix ++ codes "-" ++ decimal i ++ codes ".wav"
 
 -- ---- laws
 
-numbers-join : (f : ℕ → ℤ) (a m n : ℕ) → map f (range_with_len a (m + n)) ≡ map f (range_with_len a m) ++ map f (range_with_len (a + m) n)
-numbers-join f a zero n =
-    let e : 0 + n ≡ n = omega arith in
-    let k : a + 0 ≡ a = omega arith in
-    rw (e, k) refl
-numbers-join f a (suc m) n =
-    let e : suc m + n ≡ suc (m + n) = omega arith in
-    let k : a + 1 + m ≡ a + suc m = omega arith in
-    rw (e, ← k) (ap (λ xs. f a ∷ xs) (numbers-join f (a + 1) m n))
-
 -- samples from a draw on are those of the state there, from its first draw on
 pub noise-resumed : (number n count : ℕ) → noise (state number n) 0 count ≡ noise number n count
 noise-resumed number n count = shifted count 0 n (omega arith)
@@ -79,7 +70,7 @@ noise-resumed number n count = shifted count 0 n (omega arith)
 
 -- samples that follow one another
 pub noise-join : (number from m n : ℕ) → noise number from (m + n) ≡ noise number from m ++ noise number (from + m) n
-noise-join number from m n = numbers-join (noise_sample number) from m n
+noise-join number from m n = map_range-join (noise_sample number) from m n
 
 -- a sound by the state before it is the sound
 pub sound_from-is : (number i : ℕ) → sound_from (state number (first_draw i)) i ≡ sound_file number i

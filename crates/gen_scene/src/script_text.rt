@@ -21,16 +21,17 @@ const TOP: &str = "version = 1\nrate = 48000\nchannels = 2\nwidth = 24\nlength =
 
 /// The script of the scene, with the draws from `draws` on, which stand behind those of the sounds.
 /// Its sound files are `PREFIX-0.wav` to `PREFIX-7.wav`.
-pub fn script(alloc: Global, draws: &mut Draws, prefix: &str) -> Result<String, OutOfMemory>
-    ensures { IfOk result (λ text. string_bytes text ≡ spec.script_from draws.old prefix.now) }
+pub fn script(alloc: Global, draws: Draws, prefix: &str) -> Result<String, OutOfMemory>
+    ensures { IfOk result (λ text. string_bytes text ≡ spec.script_from draws prefix.now) }
 {
+    let mut draws = draws;
     let mut text = String::from_str(alloc, TOP)?;
     for i in 0..SOUNDS {
         write!(text, "{}", ResourceRow { prefix, i })?;
     }
     push_nodes(&mut text)?;
-    push_buses(&mut text, draws)?;
-    push_edits(&mut text, draws)?;
+    push_buses(&mut text, &mut draws)?;
+    push_edits(&mut text, &mut draws)?;
     Ok(text)
 }
 

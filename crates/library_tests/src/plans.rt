@@ -7,7 +7,7 @@ ghost use Rattle.scene_model.specs.IsScene.{is_kind, is_node, is_bus_row};
 use plain_data::{OutOfMemory, Rows, Text};
 use scene_model::{
     Bus, BusRow, Edit, MAX_LENGTH, Node, NodeKind, NodeState, Plan, Reply, Resource, Scene,
-    UNIT_GAIN, apply,
+    UNITY_GAIN, apply,
 };
 use std::alloc::Global;
 use std::test::Fail;
@@ -226,11 +226,11 @@ fn each_edit_has_each_of_its_replies(rt: HostRuntime) -> Result<(), Fail> {
     let nodes = [sound, group, at_start, splitter];
     assert_eq!(rt; plan.nodes(), nodes.as_slice());
     let buses = [
-        bus(0, 0, Some(1), UNIT_GAIN),
-        bus(1, 0, None, UNIT_GAIN),
+        bus(0, 0, Some(1), UNITY_GAIN),
+        bus(1, 0, None, UNITY_GAIN),
         bus(2, 0, Some(3), 0),
         bus(3, 0, None, 1_048_576),
-        bus(3, 1, Some(4), UNIT_GAIN),
+        bus(3, 1, Some(4), UNITY_GAIN),
     ];
     assert_eq!(rt; plan.buses(), buses.as_slice());
     Ok(())
@@ -256,7 +256,7 @@ fn bus_rows_wire_the_opening_plan(rt: HostRuntime) -> Result<(), Fail> {
 fn refuses_edits_of_a_wired_plan(rt: HostRuntime) -> Result<(), Fail> {
     // Group 0 is attached to group 1, and group 1 to nothing; group 2 is apart.
     let kinds = [NodeKind::Group; 3];
-    let rows = [row(0, 0, Some(1), UNIT_GAIN), row(2, 0, Some(3), UNIT_GAIN)];
+    let rows = [row(0, 0, Some(1), UNITY_GAIN), row(2, 0, Some(3), UNITY_GAIN)];
     let cases = [
         (attach(1, 0, 0), Reply::Cycle { node: 0 }),
         (Edit::Detach { node: 1, out: 0 }, Reply::NotAttached),

@@ -71,13 +71,13 @@ const BLENDS: [(i32, i32, u32, u32, i32); 9] = [
     (8_388_607, -8_388_608, 1, 2, -1),
 ];
 
-fn fit(rt: &impl Abort, rin: u32, rout: u32, frames: u64) -> Fit {
-    assert!(rt; 1 <= rin);
-    assert!(rt; rin <= 768_000);
-    assert!(rt; 1 <= rout);
-    assert!(rt; rout <= 768_000);
+fn fit(rt: &impl Abort, input_rate: u32, output_rate: u32, frames: u64) -> Fit {
+    assert!(rt; 1 <= input_rate);
+    assert!(rt; input_rate <= 768_000);
+    assert!(rt; 1 <= output_rate);
+    assert!(rt; output_rate <= 768_000);
     assert!(rt; frames <= 268_435_456);
-    Fit::new(rin, rout, frames)
+    Fit::new(input_rate, output_rate, frames)
 }
 
 fn point(rt: &impl Abort, fit: &Fit, n: u64) -> Point {
@@ -86,15 +86,15 @@ fn point(rt: &impl Abort, fit: &Fit, n: u64) -> Point {
 }
 
 /// The sample between `a` and `b`, by division and by the reciprocal.
-fn between(rt: &impl Abort, a: i32, b: i32, weight: u32, rout: u32) -> (i32, i32) {
+fn between(rt: &impl Abort, a: i32, b: i32, weight: u32, output_rate: u32) -> (i32, i32) {
     assert!(rt; -8_388_608 <= a);
     assert!(rt; a <= 8_388_607);
     assert!(rt; -8_388_608 <= b);
     assert!(rt; b <= 8_388_607);
-    assert!(rt; weight < rout);
-    assert!(rt; rout <= 768_000);
-    let interpolator = Interpolator::new(rout);
-    (blend(a, b, weight, rout), interpolator.blend(a, b, weight))
+    assert!(rt; weight < output_rate);
+    assert!(rt; output_rate <= 768_000);
+    let interpolator = Interpolator::new(output_rate);
+    (blend(a, b, weight, output_rate), interpolator.blend(a, b, weight))
 }
 
 fn scaled(rt: &impl Abort, x: i32, gain: u32) -> i32 {
@@ -118,27 +118,27 @@ fn walk(rt: &impl Abort, fit: &Fit, from: u64) {
 
 #[test]
 fn rates_have_the_lengths_points_and_blends_that_were_worked_out(rt: HostRuntime) {
-    for (rin, rout, frames, len) in LENGTHS {
-        let fit = fit(&rt, rin, rout, frames);
-        assert_eq!(rt; (fit.rin(), fit.rout()), (rin, rout));
-        assert_eq!(rt; fit.len(), len, "{rin} to {rout}");
+    for (input_rate, output_rate, frames, len) in LENGTHS {
+        let fit = fit(&rt, input_rate, output_rate, frames);
+        assert_eq!(rt; (fit.input_rate(), fit.output_rate()), (input_rate, output_rate));
+        assert_eq!(rt; fit.len(), len, "{input_rate} to {output_rate}");
     }
-    for (rin, rout, frames, n, first, weight) in POINTS {
-        let found = point(&rt, &fit(&rt, rin, rout, frames), n);
+    for (input_rate, output_rate, frames, n, first, weight) in POINTS {
+        let found = point(&rt, &fit(&rt, input_rate, output_rate, frames), n);
         assert_eq!(rt;
             found,
             Point { first, weight },
-            "{rin} to {rout}: frame {n}"
+            "{input_rate} to {output_rate}: frame {n}"
         );
     }
-    for (rin, rout, frames, from) in WALKS {
-        walk(&rt, &fit(&rt, rin, rout, frames), from);
+    for (input_rate, output_rate, frames, from) in WALKS {
+        walk(&rt, &fit(&rt, input_rate, output_rate, frames), from);
     }
-    for (a, b, weight, rout, want) in BLENDS {
+    for (a, b, weight, output_rate, want) in BLENDS {
         assert_eq!(rt;
-            between(&rt, a, b, weight, rout),
+            between(&rt, a, b, weight, output_rate),
             (want, want),
-            "{a} {b} {weight} {rout}"
+            "{a} {b} {weight} {output_rate}"
         );
     }
 }

@@ -1,7 +1,7 @@
 //! Texts, rows, names, replies and the order of edits.
 
 use plain_data::{OutOfMemory, Rows, Text};
-use scene_model::{Edit, EditRow, NodeKind, Reply, edits_in_order, is_file, is_name};
+use scene_model::{Edit, EditRow, NodeKind, Reply, edits_in_order, is_file_name, is_name};
 use std::alloc::Global;
 use std::test::Fail;
 
@@ -22,8 +22,8 @@ fn texts_and_rows_hold_what_they_were_made_of(rt: HostRuntime) -> Result<(), Fai
 fn names_outputs_and_replies(rt: HostRuntime) {
     assert!(rt; is_name("Aa0_-."));
     assert!(rt; !is_name("a b"));
-    assert!(rt; is_file("a b"));
-    assert!(rt; !is_file(""));
+    assert!(rt; is_file_name("a b"));
+    assert!(rt; !is_file_name(""));
     assert_eq!(rt; NodeKind::Group.outputs(), 1);
     assert_eq!(rt; NodeKind::Splitter { outputs: 4 }.outputs(), 4);
     assert!(rt; Reply::Done.is_done());

@@ -22,7 +22,7 @@ use Rattle.scene_model.specs.Times.{edits_at, plan_before, plan}
 use Rattle.scene_model.proofs.Ordered.{order_ascends, order_keeps_edits}
 use Rattle.mix_model.specs.Due.{no_edit, due, IsNext, AreInOrder}
 use Rattle.mix_model.specs.Mix.{kind_frames, node_frames, sought, moved, next_cursor, cursor_before, cursor, moment, frames_from}
-use Rattle.mix_model.specs.Output.{interleaved}
+use Rattle.clip_decode.specs.Frames.{interleaved}
 use Rattle.mix_model.specs.Pulled.{no_node, endpoint, pulled}
 use Rattle.mix_model.specs.Signals.{Moment, input, frame}
 use Rattle.mix_model.specs.Wires.{plan_of, moment_of, mark_at, cursor_after, HaveChannel}
@@ -159,6 +159,7 @@ frame_more m channel items old new x y so_far pushed same is =
 -- ---- the samples of frames that follow one another
 
 pub frames_more : (clips : List SceneClipData) (s : SceneData) (from count t : ℕ) (old items new : List ℤ) → t ≡ from + count → items ≡ old ++ interleaved (frames_from clips s from count) → new ≡ items ++ frame (moment clips s t) s.channels → new ≡ old ++ interleaved (frames_from clips s from (count + 1))
+unfolding interleaved
 frames_more clips s from count t old items new time so_far more =
     let step = map-range_with_len_more (λ k. frame (moment clips s k) s.channels) from count t (sym time) in
     let joined = flat_map-append (λ (f : List ℤ). f) (frames_from clips s from count) (frame (moment clips s t) s.channels ∷ []) in

@@ -6,7 +6,9 @@ use Rattle.std.specs.Option.{option_map}
 use Rattle.std.proofs.lemmas.List.Concat.{flat_map-append}
 use Rattle.std.proofs.lemmas.List.Elements.{All-append}
 use Rattle.std.proofs.lemmas.List.FromFn.{length-map-range_with_len}
+use Rattle.plain_data.proofs.Lists.{map_range-join}
 use Rattle.mix_fixed.specs.Sound.{Is24, sat24}
+use Rattle.clip_decode.specs.Frames.{interleaved}
 use Rattle.scene_clips.specs.SceneClipData.{SceneClipData}
 use Rattle.scene_model.specs.SceneData.{SceneData}
 use Rattle.snd_io.specs.declared.answers.Put.TheVariants.{Failed, OutOfMemory}
@@ -16,7 +18,7 @@ use Rattle.wave_write.specs.Header.{header, data_bytes}
 use Rattle.wave_write.specs.Samples.{packed_sample, packed}
 use Rattle.mix_model.specs.declared.blocks.Blocks.{Blocks}
 use Rattle.mix_model.specs.Mix.{moment, clips_of, frames_from, mix}
-use Rattle.mix_model.specs.Output.{interleaved, padding, wav}
+use Rattle.mix_model.specs.Output.{padding, wav}
 use Rattle.mix_model.specs.Pulled.{endpoint}
 use Rattle.mix_model.specs.Rendering.{data_of, frames_before}
 use Rattle.mix_model.specs.Signals.{Moment, input, frame}
@@ -24,22 +26,13 @@ use Rattle.mix_model.specs.Turns.{turns}
 
 -- ---- frames that follow one another
 
-range-join : {X : Type 0} (f : ℕ → X) (a m n : ℕ) → map f (range_with_len a (m + n)) ≡ map f (range_with_len a m) ++ map f (range_with_len (a + m) n)
-range-join f a zero n =
-    let e : 0 + n ≡ n = omega arith in
-    let k : a + 0 ≡ a = omega arith in
-    rw (e, k) refl
-range-join f a (suc m) n =
-    let e : suc m + n ≡ suc (m + n) = omega arith in
-    let k : a + 1 + m ≡ a + suc m = omega arith in
-    rw (e, ← k) (ap (λ xs. f a ∷ xs) (range-join f (a + 1) m n))
-
 pub samples-join : (clips : List SceneClipData) (s : SceneData) (t count later : ℕ) → later ≡ t + count → interleaved (frames_from clips s 0 later) ≡ interleaved (frames_from clips s 0 t) ++ interleaved (frames_from clips s t count)
+unfolding interleaved
 samples-join clips s t count later e =
     let f = λ (k : ℕ). frame (moment clips s k) s.channels in
     let start : 0 + t ≡ t = omega arith in
     ap (λ k. interleaved (frames_from clips s 0 k)) e
-    ∙ ap interleaved (range-join f 0 t count)
+    ∙ ap interleaved (map_range-join f 0 t count)
     ∙ flat_map-append (λ (xs : List ℤ). xs) (frames_from clips s 0 t) (frames_from clips s (0 + t) count)
     ∙ ap (λ k. interleaved (frames_from clips s 0 t) ++ interleaved (frames_from clips s k count)) start
 
@@ -74,6 +67,7 @@ frame_24 m (c ∷ channels) zero d inside = input_24 m c (endpoint m.plan)
 frame_24 m (c ∷ channels) (suc k) d inside = frame_24 m channels k d (omega arith)
 
 frames_24 : (clips : List SceneClipData) (s : SceneData) (ts : List ℕ) → All Is24 (interleaved (map (λ t. frame (moment clips s t) s.channels) ts))
+unfolding interleaved
 frames_24 clips s [] = λ k d inside. absurd (omega arith)
 frames_24 clips s (t ∷ ts) =
     All-append Is24 (frame (moment clips s t) s.channels) (interleaved (map (λ t. frame (moment clips s t) s.channels) ts)) (frame_24 (moment clips s t) (range_with_len 0 s.channels)) (frames_24 clips s ts)

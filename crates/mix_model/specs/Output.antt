@@ -1,13 +1,9 @@
 -- The file that a scene is rendered to. A frame is the list of its samples, one for each channel, in 24 bits.
 use Rattle.std.specs.Prelude.{ℕ, ℤ, List, ◌++◌, length, replicate}
-use Rattle.std.specs.List.{flat_map}
 use Rattle.wave_write.specs.Header.{header, data_bytes, pad_bytes}
 use Rattle.wave_write.specs.Samples.{packed}
+use Rattle.clip_decode.specs.Frames.{interleaved}
 use Rattle.scene_model.specs.SceneData.{SceneData}
-
--- the samples of frames, interleaved
-abbrev pub interleaved : List (List ℤ) → List ℤ
-interleaved frames = flat_map (λ frame. frame) frames
 
 -- the zero byte after data of an odd size, and none after data of an even one
 abbrev pub padding : ℕ → List ℕ

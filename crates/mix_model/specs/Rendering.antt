@@ -1,5 +1,6 @@
 -- A scene while it is written, block by block.
 use Rattle.std.specs.Prelude.{◌≡◌, ℕ, ℤ, List, Result, Ok, Err}
+use Rattle.clip_decode.specs.Frames.{interleaved}
 use Rattle.scene_model.specs.SceneData.{SceneData}
 use Rattle.snd_io.specs.declared.answers.Put.{Put}
 use Rattle.snd_io.specs.declared.answers.Put.TheVariants.{Done, Failed, OutOfMemory as PutOutOfMemory}
@@ -9,7 +10,6 @@ use Rattle.mix_model.specs.declared.mix_fault.MixFault.{MixFault}
 use Rattle.mix_model.specs.declared.mix_fault.MixFault.TheVariants.{SinkFault, OutOfMemory}
 use Rattle.mix_model.specs.declared.summary.Summary.{Summary}
 use Rattle.mix_model.specs.Mix.{frames_from}
-use Rattle.mix_model.specs.Output.{interleaved}
 use Rattle.mix_model.specs.Playing.{IsBefore}
 use Rattle.mix_model.specs.Summary.{summary}
 

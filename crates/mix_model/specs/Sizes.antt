@@ -2,5 +2,5 @@
 use Rattle.std.specs.Prelude.{ℕ}
 
 -- the most bytes of a sound file
-abbrev pub most_file_bytes : ℕ
-most_file_bytes = 67108864
+abbrev pub most_sound_bytes : ℕ
+most_sound_bytes = 67108864

@@ -4,7 +4,7 @@ ghost use Rattle.std.specs.Prelude.{◌≡◌, ◌<◌, ◌≤◌, ◌++◌, All
 ghost use Rattle.clip_decode.specs.ClipData.{ClipData};
 ghost use Rattle.mix_model.specs.Mix.{clips_of};
 ghost use Rattle.mix_model.specs.Rendering.{data_of, frames_before, IsRendered};
-ghost use Rattle.mix_model.specs.Sizes.{most_file_bytes};
+ghost use Rattle.mix_model.specs.Sizes.{most_sound_bytes};
 
 use crate::player::Player;
 use crate::summary::Summary;
@@ -33,7 +33,7 @@ pub(crate) struct Blocks {
 impl Blocks {
     /// A scene before its first block.
     pub(crate) fn new(alloc: Global, scene: &Scene, clips: &[Clip]) -> Result<Blocks, OutOfMemory>
-        requires { All (λ (c : ClipData). length c.bytes ≤ most_file_bytes) clips.now }
+        requires { All (λ (c : ClipData). length c.bytes ≤ most_sound_bytes) clips.now }
         ensures rendered { IfOk result (λ blocks. IsRendered scene.now blocks) }
         ensures start { IfOk result (λ blocks. blocks.player.time ≡ 0) }
         ensures clips { IfOk result (λ blocks. blocks.player.clips.items

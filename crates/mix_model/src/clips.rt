@@ -3,7 +3,7 @@
 ghost use Rattle.std.specs.Prelude.{◌≡◌, ◌≤◌, ℕ, All, length, map, slice_index, IfOk};
 ghost use Rattle.clip_decode.specs.ClipData.{ClipData};
 ghost use Rattle.mix_model.specs.Mix.{clips_of, kind_frames, node_frames};
-ghost use Rattle.mix_model.specs.Sizes.{most_file_bytes};
+ghost use Rattle.mix_model.specs.Sizes.{most_sound_bytes};
 
 use crate::order::MAX_INPUTS;
 use clip_decode::Clip;
@@ -18,7 +18,7 @@ pub(crate) fn decoded(
     scene: &Scene,
     clips: &[Clip],
 ) -> Result<Vec<SceneClip>, OutOfMemory>
-    requires { All (λ (c : ClipData). length c.bytes ≤ most_file_bytes) clips.now }
+    requires { All (λ (c : ClipData). length c.bytes ≤ most_sound_bytes) clips.now }
     ensures { IfOk result (λ decoded. decoded.items ≡ clips_of scene.now (map (λ (c : ClipData). c.bytes) clips.now)) }
 {
     let (rate, channels) = (scene.rate, scene.channels);

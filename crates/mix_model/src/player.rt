@@ -3,10 +3,10 @@
 ghost use Rattle.std.specs.Prelude.{◌≡◌, ◌<◌, ◌≤◌, ◌+◌, ◌++◌, All, length, map, IfOk};
 ghost use Rattle.clip_decode.specs.ClipData.{ClipData};
 ghost use Rattle.mix_model.specs.Mix.{clips_of, moment, frames_from};
-ghost use Rattle.mix_model.specs.Output.{interleaved};
+ghost use Rattle.clip_decode.specs.Frames.{interleaved};
 ghost use Rattle.mix_model.specs.Playing.{IsBefore, IsAt};
 ghost use Rattle.mix_model.specs.Signals.{frame};
-ghost use Rattle.mix_model.specs.Sizes.{most_file_bytes};
+ghost use Rattle.mix_model.specs.Sizes.{most_sound_bytes};
 
 use crate::clips::{clip_lengths, decoded};
 use crate::cursors::advance;
@@ -50,7 +50,7 @@ pub(crate) struct Player {
 impl Player {
     /// A scene before its first frame. A resource's clip has at most 67,108,864 bytes.
     pub(crate) fn new(alloc: Global, scene: &Scene, clips: &[Clip]) -> Result<Player, OutOfMemory>
-        requires { All (λ (c : ClipData). length c.bytes ≤ most_file_bytes) clips.now }
+        requires { All (λ (c : ClipData). length c.bytes ≤ most_sound_bytes) clips.now }
         ensures before { IfOk result (λ player. IsBefore scene.now player) }
         ensures start { IfOk result (λ player. player.time ≡ 0) }
         ensures clips { IfOk result (λ player. player.clips.items

@@ -8,7 +8,7 @@ ghost use Rattle.wave_write.specs.Header.{header as header_of, data_bytes};
 ghost use Rattle.mix_model.specs.Mix.{frames_from, mix};
 ghost use Rattle.mix_model.specs.Output.{wav, padding};
 ghost use Rattle.mix_model.specs.Rendering.{data_of, summary_of, IsRendered, answer_of};
-ghost use Rattle.mix_model.specs.Sizes.{most_file_bytes};
+ghost use Rattle.mix_model.specs.Sizes.{most_sound_bytes};
 
 use crate::blocks::Blocks;
 use crate::mix_fault::MixFault;
@@ -38,7 +38,7 @@ pub fn plain_mix<S: Sink>(
     sink: &mut S,
 ) -> Result<Summary, MixFault>
     requires count { length clips.now ≡ length scene.now.resources }
-    requires sizes { All (λ (c : ClipData). length c.bytes ≤ most_file_bytes) clips.now }
+    requires sizes { All (λ (c : ClipData). length c.bytes ≤ most_sound_bytes) clips.now }
     ensures written { let frames = mix scene.now (map (λ (c : ClipData). c.bytes) clips.now) in
         Writes (answer_of result) (wav scene.now frames) (S.written sink.old) (S.written sink.new) }
     ensures cause { CountsFaults (S.faults sink.old) (S.faults sink.new) (put_failed (answer_of result)) }

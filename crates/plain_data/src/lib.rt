@@ -4,6 +4,8 @@
 //! memory. Contracts see a `Text` as the list of its bytes and `Rows` as the list of their items,
 //! so that a definition can build one and two of them are equal where their lists are.
 //! [`OutOfMemory`] is the error of a call that fails for want of memory alone.
+//!
+//! `proofs/Lists.antt` has lemmas on lists and options on which several crates stand.
 #![tactic(auto)]
 
 mod out_of_memory;

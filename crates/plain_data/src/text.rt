@@ -64,6 +64,10 @@ impl Eq for Text {
 }
 
 impl fmt::Display for Text {
+    ghost use Rattle.std.specs.Prelude.{Some};
+
+    ghost output = { λ t. Some t };
+
     fn fmt<W: fmt::Write>(&self, f: &mut fmt::Formatter<W>) -> fmt::Result {
         f.write_str(self.inner.as_str())
     }

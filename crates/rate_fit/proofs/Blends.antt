@@ -12,7 +12,7 @@ sum_of_two s t w r below is_s is_t = record {
   high = omega (arith, ints, is_s.high, is_t.high);
 }
 
--- the quotient q that the code computes from the weighed samples s and t
+-- the quotient q that the code computes from the weighted samples s and t
 pub record Quotient (s t q : ℤ) (w r : ℕ) : Type 0 where
   pub below : w < r
   pub rate : r < 2 ^ 32

@@ -4,4 +4,4 @@ pub mod Sums
 pub mod Means
 pub mod Blends
 pub mod Reciprocals
-pub mod Lifts
+pub mod OffsetBinary

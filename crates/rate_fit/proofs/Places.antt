@@ -10,28 +10,28 @@ use Rattle.rate_fit.specs.declared.point.Point.{Point}
 
 -- a point is known by its place
 pub divided_is : (point : Point) (p r : ℕ) → place_of r point ≡ p → point.weight < r → point ≡ divided p r
-divided_is point p r place weighed =
-    let first : p / r ≡ point.first = rw (← place) (div-mul-add point.first r point.weight weighed) in
-    let weight : p % r ≡ point.weight = rw (← place) (mod-mul-add point.first r point.weight weighed) in
+divided_is point p r place weighted =
+    let first : p / r ≡ point.first = rw (← place) (div-mul-add point.first r point.weight weighted) in
+    let weight : p % r ≡ point.weight = rw (← place) (mod-mul-add point.first r point.weight weighted) in
     rw (first, weight) refl
 
 -- a frame below the length lies before the clip's end
-pub place_inside : (c : Conversion) (n : ℕ) → IsConversion c → n < length_of c → n * c.rin < c.frames * c.rout
+pub place_inside : (c : Conversion) (n : ℕ) → IsConversion c → n < length_of c → n * c.input_rate < c.frames * c.output_rate
 place_inside c n is below =
-    let more : (n + 1) * c.rin ≤ length_of c * c.rin = mul-le-mul_right c.rin (omega arith) in
-    omega (arith, (div_ceil_times (c.frames * c.rout) c.rin is.some_in).1)
+    let more : (n + 1) * c.input_rate ≤ length_of c * c.input_rate = mul-le-mul_right c.input_rate (omega arith) in
+    omega (arith, (div_ceil_times (c.frames * c.output_rate) c.input_rate is.some_in).1)
 
 -- the length lies less than one step after the clip's end
-pub place_bound : (c : Conversion) (n : ℕ) → IsConversion c → n ≤ length_of c → n * c.rin ≤ 2 ^ 48
+pub place_bound : (c : Conversion) (n : ℕ) → IsConversion c → n ≤ length_of c → n * c.input_rate ≤ 2 ^ 48
 place_bound c n is within =
-    let less : n * c.rin ≤ length_of c * c.rin = mul-le-mul_right c.rin within in
-    let frames : c.frames * c.rout ≤ 2 ^ 28 * c.rout = mul-le-mul_right c.rout is.short in
-    omega (arith, (div_ceil_times (c.frames * c.rout) c.rin is.some_in).1, is.most_in, is.most_out)
+    let less : n * c.input_rate ≤ length_of c * c.input_rate = mul-le-mul_right c.input_rate within in
+    let frames : c.frames * c.output_rate ≤ 2 ^ 28 * c.output_rate = mul-le-mul_right c.output_rate is.short in
+    omega (arith, (div_ceil_times (c.frames * c.output_rate) c.input_rate is.some_in).1, is.most_in, is.most_out)
 
-pub total_bound : (c : Conversion) → IsConversion c → c.frames * c.rout ≤ 2 ^ 48
+pub total_bound : (c : Conversion) → IsConversion c → c.frames * c.output_rate ≤ 2 ^ 48
 total_bound c is =
-    let frames : c.frames * c.rout ≤ 2 ^ 28 * c.rout = mul-le-mul_right c.rout is.short in
+    let frames : c.frames * c.output_rate ≤ 2 ^ 28 * c.output_rate = mul-le-mul_right c.output_rate is.short in
     omega (arith, is.most_out)
 
-pub first_inside : (c : Conversion) (n : ℕ) → IsConversion c → n < length_of c → n * c.rin / c.rout < c.frames
-first_inside c n is below = quotient_below (n * c.rin) c.frames c.rout is.some_out (place_inside c n is below)
+pub first_inside : (c : Conversion) (n : ℕ) → IsConversion c → n < length_of c → n * c.input_rate / c.output_rate < c.frames
+first_inside c n is below = quotient_below (n * c.input_rate) c.frames c.output_rate is.some_out (place_inside c n is below)

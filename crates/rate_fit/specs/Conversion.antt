@@ -1,10 +1,10 @@
--- A clip of some frames at the rate rin, brought to the rate rout; rates in frames a second.
+-- A clip of some frames at the rate input_rate, brought to the rate output_rate; rates in frames a second.
 use Rattle.std.specs.Prelude.{ℕ, ◌*◌, ◌^◌, ◌<◌, ◌≤◌}
 use Rattle.std.specs.Int.{div_ceil}
 
 pub record Conversion : Type 0 where
-  pub rin : ℕ
-  pub rout : ℕ
+  pub input_rate : ℕ
+  pub output_rate : ℕ
   pub frames : ℕ
 
 abbrev pub highest_rate : ℕ
@@ -14,15 +14,15 @@ abbrev pub most_frames : ℕ
 most_frames = 2 ^ 28
 
 pub record IsConversion (c : Conversion) : Type 0 where
-  pub some_in : 0 < c.rin
-  pub most_in : c.rin ≤ highest_rate
-  pub some_out : 0 < c.rout
-  pub most_out : c.rout ≤ highest_rate
+  pub some_in : 0 < c.input_rate
+  pub most_in : c.input_rate ≤ highest_rate
+  pub some_out : 0 < c.output_rate
+  pub most_out : c.output_rate ≤ highest_rate
   pub short : c.frames ≤ most_frames
 
--- a clip of so many frames at rin has so many at rout: frames * rout / rin, rounded up
+-- a clip of so many frames at input_rate has so many at output_rate: frames * output_rate / input_rate, rounded up
 abbrev pub clip_len : ℕ → ℕ → ℕ → ℕ
-clip_len frames rin rout = div_ceil (frames * rout) rin
+clip_len frames input_rate output_rate = div_ceil (frames * output_rate) input_rate
 
 abbrev pub length_of : Conversion → ℕ
-length_of c = clip_len c.frames c.rin c.rout
+length_of c = clip_len c.frames c.input_rate c.output_rate

@@ -1,15 +1,15 @@
--- Places between the frames of a clip, in parts of a frame of which rout make one.
+-- Places between the frames of a clip, in parts of a frame of which output_rate make one.
 use Rattle.std.specs.Prelude.{ℕ, ◌+◌, ◌*◌, ◌/◌, ◌%◌}
 use Rattle.rate_fit.specs.declared.point.Point.{Point}
 
--- the place p / rout: whole frames, and the parts that are left
+-- the place p / output_rate: whole frames, and the parts that are left
 abbrev pub divided : ℕ → ℕ → Point
-divided p rout = record { first = p / rout; weight = p % rout }
+divided p output_rate = record { first = p / output_rate; weight = p % output_rate }
 
--- frame n at the rate rout lies at the place n * rin / rout of the clip
+-- frame n at the rate output_rate lies at the place n * input_rate / output_rate of the clip
 abbrev pub point_at : ℕ → ℕ → ℕ → Point
-point_at rin rout n = divided (n * rin) rout
+point_at input_rate output_rate n = divided (n * input_rate) output_rate
 
 -- the place of a point, in parts
 abbrev pub place_of : ℕ → Point → ℕ
-place_of rout p = p.first * rout + p.weight
+place_of output_rate p = p.first * output_rate + p.weight

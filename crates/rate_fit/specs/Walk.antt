@@ -11,19 +11,19 @@ pub record Walk : Type 0 where
 
 -- the point of the frame that comes next, and none at the end
 abbrev pub next_point : Walk → Option Point
-next_point w = if nat_lt w.n (length_of w.fit) then Some (point_at w.fit.rin w.fit.rout w.n) else None
+next_point w = if nat_lt w.n (length_of w.fit) then Some (point_at w.fit.input_rate w.fit.output_rate w.n) else None
 
 -- the walk stands one frame further on, and stays at the end
 abbrev pub after : Walk → Walk
 after w = if nat_lt w.n (length_of w.fit) then record { fit = w.fit; n = w.n + 1 } else w
 
--- what a walker keeps: its point lies at n * rin parts, and its step is rin parts long
-pub record IsWalk (fit : Conversion) (rout len n : ℕ) (point step : Point) : Type 0 where
+-- what a walker keeps: its point lies at n * input_rate parts, and its step is input_rate parts long
+pub record IsWalk (fit : Conversion) (output_rate len n : ℕ) (point step : Point) : Type 0 where
   pub conversion : IsConversion fit
-  pub rate : rout ≡ fit.rout
+  pub rate : output_rate ≡ fit.output_rate
   pub length : len ≡ length_of fit
   pub within : n ≤ len
-  pub place : place_of rout point ≡ n * fit.rin
-  pub weighed : point.weight < rout
-  pub step_place : place_of rout step ≡ fit.rin
-  pub step_weighed : step.weight < rout
+  pub place : place_of output_rate point ≡ n * fit.input_rate
+  pub weighted : point.weight < output_rate
+  pub step_place : place_of output_rate step ≡ fit.input_rate
+  pub step_weighted : step.weight < output_rate

@@ -7,12 +7,12 @@ ghost use Rattle.rate_fit.specs.Points.{divided, point_at};
 use crate::point::Point;
 use std::marker::Model;
 
-/// The frames of a clip of `frames` frames at the rate `rin`, brought to the rate `rout`, both in
+/// The frames of a clip of `frames` frames at the rate `input_rate`, brought to the rate `output_rate`, both in
 /// frames a second.
 #[derive(Clone, Copy, Debug, PartialEq, Eq)]
 pub struct Fit {
-    rin: u32,
-    rout: u32,
+    input_rate: u32,
+    output_rate: u32,
     frames: u64,
 }
 
@@ -21,68 +21,72 @@ impl Model for Fit {
 
     ghost Value = { Conversion };
 
-    ghost view = { λ f. record { rin = f.rin; rout = f.rout; frames = f.frames } };
+    ghost view = { λ f. record { input_rate = f.input_rate; output_rate = f.output_rate; frames = f.frames } };
 
-    ghost invariant = { λ f. IsConversion (record { rin = f.rin; rout = f.rout; frames = f.frames }) };
+    ghost invariant = { λ f. IsConversion (record { input_rate = f.input_rate; output_rate = f.output_rate; frames = f.frames }) };
 
-    ghost inverse = { λ c. record { rin = c.rin; rout = c.rout; frames = c.frames } };
+    ghost inverse = { λ c. record { input_rate = c.input_rate; output_rate = c.output_rate; frames = c.frames } };
 }
 
 impl Fit {
-    /// A clip of `frames` frames, at most 2^28, from the rate `rin` to the rate `rout`, each from 1
+    /// A clip of `frames` frames, at most 2^28, from the rate `input_rate` to the rate `output_rate`, each from 1
     /// to 768000 frames a second.
-    pub fn new(rin: u32, rout: u32, frames: u64) -> Self
-        requires { IsConversion (record { rin = rin; rout = rout; frames = frames }) }
-        ensures { result ≡ record { rin = rin; rout = rout; frames = frames } }
+    pub fn new(input_rate: u32, output_rate: u32, frames: u64) -> Self
+        requires { IsConversion (record { input_rate = input_rate; output_rate = output_rate; frames = frames }) }
+        ensures { result ≡ record { input_rate = input_rate; output_rate = output_rate; frames = frames } }
     {
-        Fit { rin, rout, frames }
+        Fit {
+            input_rate,
+            output_rate,
+            frames,
+        }
     }
 
-    /// The rate of the clip, from 1 to 768000 frames a second.
-    pub fn rin(&self) -> u32
-        ensures rate { result ≡ self.now.rin }
+    /// The rate of the clip that is converted, from 1 to 768000 frames a second.
+    pub fn input_rate(&self) -> u32
+        ensures rate { result ≡ self.now.input_rate }
         ensures limits { IsConversion self.now }
     {
-        self.rin
+        self.input_rate
     }
 
     /// The rate that is wanted, from 1 to 768000 frames a second.
-    pub fn rout(&self) -> u32
-        ensures rate { result ≡ self.now.rout }
+    pub fn output_rate(&self) -> u32
+        ensures rate { result ≡ self.now.output_rate }
         ensures limits { IsConversion self.now }
     {
-        self.rout
+        self.output_rate
     }
 
-    /// The number of frames at the rate that is wanted: `frames * rout / rin`, rounded up.
+    /// The number of frames at the output rate: `frames * output_rate / input_rate`, rounded up.
     pub fn len(&self) -> u64
-        ensures length { result ≡ clip_len self.now.frames self.now.rin self.now.rout }
+        ensures length { result ≡ clip_len self.now.frames self.now.input_rate self.now.output_rate }
         ensures limits { IsConversion self.now }
     {
-        (self.frames * u64::from(self.rout)).div_ceil(u64::from(self.rin))
+        (self.frames * u64::from(self.output_rate)).div_ceil(u64::from(self.input_rate))
     }
 
     /// The place of frame `n`, below `len`, in the clip: `first` is below the clip's number of frames
-    /// and `weight` below the rate that is wanted.
+    /// and `weight` below the output rate.
     pub fn at(&self, n: u64) -> Point
         requires { n < length_of self.now }
-        ensures point { result ≡ point_at self.now.rin self.now.rout n }
+        ensures point { result ≡ point_at self.now.input_rate self.now.output_rate n }
         ensures inside { result.first < self.now.frames }
-        ensures weighed { result.weight < self.now.rout }
+        ensures weighted { result.weight < self.now.output_rate }
     {
-        divided(n * u64::from(self.rin), self.rout)
+        divided(n * u64::from(self.input_rate), self.output_rate)
     }
 }
 
-/// The place `place / rout` of a clip.
-pub(crate) fn divided(place: u64, rout: u32) -> Point
-    requires { 0 < rout }
-    ensures point { result ≡ divided place rout }
-    ensures weighed { result.weight < rout }
+/// The place `place / output_rate` of a clip.
+pub(crate) fn divided(place: u64, output_rate: u32) -> Point
+    requires { 0 < output_rate }
+    ensures point { result ≡ divided place output_rate }
+    ensures weighted { result.weight < output_rate }
 {
-    let rout = u64::from(rout);
+    let output_rate = u64::from(output_rate);
     Point {
-        first: place / rout,
-        weight: (place % rout) as u32,
+        first: place / output_rate,
+        weight: (place % output_rate) as u32,
     }
 }

@@ -1,4 +1,4 @@
-//! Linear interpolation at one rate, without a division.
+//! Linear interpolation at one output rate, by a reciprocal in place of divisions.
 
 ghost use Rattle.std.specs.Prelude.{◌≡◌, ◌<◌, ◌≤◌, ◌*◌, ◌-◌, ◌/◌, ◌^◌, pos, ◌+ℤ◌};
 ghost use Rattle.mix_fixed.specs.Sound.{Is24};
@@ -10,17 +10,17 @@ use crate::fit::Fit;
 use crate::point::Point;
 use std::marker::Model;
 
-/// How far samples of 24 bits are lifted, so that none is negative.
-const LIFT: i32 = 8_388_608;
+/// What offset binary adds to a sample of 24 bits, so that none is negative.
+const OFFSET: i32 = 8_388_608;
 
 /// Quotients below it are found without a division.
 const QUOTIENTS: u64 = 16_777_216;
 
-/// Blends samples of 24 bits at one rate: as [`crate::blend`] does, by one multiplication by a
-/// reciprocal in place of a division.
+/// Blends samples of 24 bits at one output rate: as [`crate::blend`] does, by one multiplication by
+/// a reciprocal in place of a division.
 #[derive(Drop)]
 pub struct Interpolator {
-    rout: u32,
+    output_rate: u32,
     reciprocal: u64,
 }
 
@@ -30,36 +30,36 @@ impl Model for Interpolator {
 
     ghost Value = { ℕ };
 
-    ghost view = { λ i. i.rout };
+    ghost view = { λ i. i.output_rate };
 
-    ghost invariant = { λ i. IsReciprocal i.rout i.reciprocal };
+    ghost invariant = { λ i. IsReciprocal i.output_rate i.reciprocal };
 }
 
 impl Interpolator {
-    /// Blends at the rate `rout`, from 1 to 768000 frames a second.
-    pub fn new(rout: u32) -> Self
-        requires some { 0 < rout }
-        requires most { rout ≤ highest_rate }
-        ensures { result ≡ rout }
+    /// An interpolator for the rate `output_rate`, from 1 to 768000 frames a second.
+    pub fn new(output_rate: u32) -> Self
+        requires some { 0 < output_rate }
+        requires most { output_rate ≤ highest_rate }
+        ensures { result ≡ output_rate }
     {
         Interpolator {
-            rout,
-            reciprocal: u64::MAX / u64::from(rout),
+            output_rate,
+            reciprocal: u64::MAX / u64::from(output_rate),
         }
     }
 
-    /// The place of frame `n`, below the length, in the clip of `fit`, whose rate that is wanted is
-    /// this one: as [`Fit::at`] has it, but with no division in the first 2^24 frames.
+    /// The point of output frame `n`, below `fit.len()`: equal to [`Fit::at`]. The output rate of `fit`
+    /// is the interpolator's. It divides only where the point lies at frame 2^24 of the clip or past it.
     pub fn at(&self, fit: &Fit, n: u64) -> Point
-        requires rate { self.now ≡ fit.now.rout }
+        requires rate { self.now ≡ fit.now.output_rate }
         requires frame { n < length_of fit.now }
-        ensures point { result ≡ point_at fit.now.rin fit.now.rout n }
+        ensures point { result ≡ point_at fit.now.input_rate fit.now.output_rate n }
         ensures inside { result.first < fit.now.frames }
-        ensures weighed { result.weight < fit.now.rout }
+        ensures weighted { result.weight < fit.now.output_rate }
     {
-        let place = n * u64::from(fit.rin());
-        if place < QUOTIENTS * u64::from(self.rout) {
-            early_point(place, self.rout, self.reciprocal)
+        let place = n * u64::from(fit.input_rate());
+        if place < QUOTIENTS * u64::from(self.output_rate) {
+            early_point(place, self.output_rate, self.reciprocal)
         } else {
             fit.at(n)
         }
@@ -70,55 +70,56 @@ impl Interpolator {
     pub fn blend(&self, a: i32, b: i32, weight: u32) -> i32
         requires first { Is24 a }
         requires second { Is24 b }
-        requires weighed { weight < self.now }
+        requires weighted { weight < self.now }
         ensures between { result ≡ blended a b weight self.now }
         ensures range { Is24 result }
     {
-        let sum = lifted(a) * u64::from(self.rout - weight) + lifted(b) * u64::from(weight);
-        lowered(quotient(sum, self.rout, self.reciprocal))
+        let first = to_offset_binary(a) * u64::from(self.output_rate - weight);
+        let second = to_offset_binary(b) * u64::from(weight);
+        from_offset_binary(quotient(first + second, self.output_rate, self.reciprocal))
     }
 }
 
-/// The sample `sample`, of 24 bits, lifted.
-fn lifted(sample: i32) -> u64
+/// The sample `sample`, of 24 bits, in offset binary.
+fn to_offset_binary(sample: i32) -> u64
     requires { Is24 sample }
     ensures value { pos result ≡ sample +ℤ pos (2 ^ 23) }
     ensures range { result < 2 ^ 24 }
 {
-    (sample + LIFT) as u64
+    (sample + OFFSET) as u64
 }
 
-/// The sample that was lifted to `lifted`.
-fn lowered(lifted: u64) -> i32
-    requires { lifted < 2 ^ 24 }
-    ensures value { pos lifted ≡ result +ℤ pos (2 ^ 23) }
+/// The sample that is `number` in offset binary.
+fn from_offset_binary(number: u64) -> i32
+    requires { number < 2 ^ 24 }
+    ensures value { pos number ≡ result +ℤ pos (2 ^ 23) }
     ensures range { Is24 result }
 {
-    lifted as i32 - LIFT
+    number as i32 - OFFSET
 }
 
-/// The place `place / rout` of a clip, in its first 2^24 frames.
-fn early_point(place: u64, rout: u32, reciprocal: u64) -> Point
-    requires some { 0 < rout }
-    requires most { rout ≤ highest_rate }
-    requires reciprocal { reciprocal ≡ (2 ^ 64 - 1) / rout }
-    requires within { place < 2 ^ 24 * rout }
-    ensures point { result ≡ divided place rout }
+/// The place `place / output_rate` of a clip, in its first 2^24 frames.
+fn early_point(place: u64, output_rate: u32, reciprocal: u64) -> Point
+    requires some { 0 < output_rate }
+    requires most { output_rate ≤ highest_rate }
+    requires reciprocal { reciprocal ≡ (2 ^ 64 - 1) / output_rate }
+    requires within { place < 2 ^ 24 * output_rate }
+    ensures point { result ≡ divided place output_rate }
 {
-    let first = quotient(place, rout, reciprocal);
+    let first = quotient(place, output_rate, reciprocal);
     Point {
         first,
-        weight: (place - first * u64::from(rout)) as u32,
+        weight: (place - first * u64::from(output_rate)) as u32,
     }
 }
 
-/// `sum / rout`, rounded down: the upper half of a product of 128 bits.
-fn quotient(sum: u64, rout: u32, reciprocal: u64) -> u64
-    requires some { 0 < rout }
-    requires most { rout ≤ highest_rate }
-    requires reciprocal { reciprocal ≡ (2 ^ 64 - 1) / rout }
-    requires within { sum < 2 ^ 24 * rout }
-    ensures quotient { result ≡ sum / rout }
+/// `sum / output_rate`, rounded down: the upper half of a product of 128 bits.
+fn quotient(sum: u64, output_rate: u32, reciprocal: u64) -> u64
+    requires some { 0 < output_rate }
+    requires most { output_rate ≤ highest_rate }
+    requires reciprocal { reciprocal ≡ (2 ^ 64 - 1) / output_rate }
+    requires within { sum < 2 ^ 24 * output_rate }
+    ensures quotient { result ≡ sum / output_rate }
     ensures range { result < 2 ^ 24 }
 {
     ((u128::from(sum + 1) * u128::from(reciprocal)) >> 64) as u64

@@ -23,9 +23,9 @@ list_has_samples bytes rate channels =
 no_frames_long : (rate : ℕ) → clip_len 0 1 rate ≡ 0
 no_frames_long rate = omega arith
 
-pub nothing_heard : (bytes : List ℕ) (rate channels : ℕ) (fault : WaveFault) → wave bytes ≡ Err fault → clip_frames bytes rate channels ≡ []
+pub no_clip_frames : (bytes : List ℕ) (rate channels : ℕ) (fault : WaveFault) → wave bytes ≡ Err fault → clip_frames bytes rate channels ≡ []
 unfolding clip_frames frames
-nothing_heard bytes rate channels fault refused =
+no_clip_frames bytes rate channels fault refused =
     rw refused
     (ap (λ n. map (λ k. map (sample_at_rate 1 rate [] k) (range_with_len 0 channels)) (range_with_len 0 n)) (no_frames_long rate))
 

@@ -21,7 +21,7 @@ rate_of : (bytes : List ℕ) (w : Wave) → wave bytes ≡ Ok w → file_rate by
 rate_of bytes w said = ap rate_said said
 
 pub conversion : (bytes : List ℕ) (w : Wave) (rate : ℕ) → IsWaveOf bytes w → length bytes ≤ 67108864 → 1 ≤ rate → rate ≤ 768000
-    → IsConversion (record { rin = w.rate; rout = rate; frames = w.frames })
+    → IsConversion (record { input_rate = w.rate; output_rate = rate; frames = w.frames })
 conversion bytes w rate lawful short least most = record {
   some_in = lawful.lies.rate_least;
   most_in = lawful.lies.rate_most;
@@ -30,20 +30,20 @@ conversion bytes w rate lawful short least most = record {
   short = omega (arith, short, few_frames bytes w lawful.lies);
 }
 
-pub fit_length : (bytes : List ℕ) (w : Wave) (fit : Conversion) → wave bytes ≡ Ok w → fit.rin ≡ w.rate → fit.frames ≡ w.frames
-    → clip_length bytes fit.rout ≡ length_of fit
+pub fit_length : (bytes : List ℕ) (w : Wave) (fit : Conversion) → wave bytes ≡ Ok w → fit.input_rate ≡ w.rate → fit.frames ≡ w.frames
+    → clip_length bytes fit.output_rate ≡ length_of fit
 unfolding clip_length
-fit_length bytes w fit said rin count = rw (frames_counted bytes w said, rate_of bytes w said, rin, count) refl
+fit_length bytes w fit said input_rate count = rw (frames_counted bytes w said, rate_of bytes w said, input_rate, count) refl
 
 -- a sample between two of the file's
 pub blended_is : (bytes : List ℕ) (w : Wave) (fit : Conversion) (channels n c : ℕ) (p : Point) (first second : ℤ) → wave bytes ≡ Ok w
-    → fit.rin ≡ w.rate → p ≡ point_at fit.rin fit.rout n
+    → fit.input_rate ≡ w.rate → p ≡ point_at fit.input_rate fit.output_rate n
     → first ≡ sample_or_zero (all_in_channels channels (frames bytes)) p.first c
     → second ≡ sample_or_zero (all_in_channels channels (frames bytes)) (p.first + 1) c
-    → blended first second p.weight fit.rout ≡ clip_sample bytes fit.rout channels n c
+    → blended first second p.weight fit.output_rate ≡ clip_sample bytes fit.output_rate channels n c
 unfolding clip_sample
-blended_is bytes w fit channels n c p first second said rin point first_is second_is =
-    rw (first_is, second_is, point, rin, rate_of bytes w said) refl
+blended_is bytes w fit channels n c p first second said input_rate point first_is second_is =
+    rw (first_is, second_is, point, input_rate, rate_of bytes w said) refl
 
 whole_quotient : (a : ℤ) (r : ℕ) → 0 < r → int_div_euclid (a *ℤ pos r) (pos r) ≡ a
 whole_quotient (pos n) r some = omega (arith, ints, mul-div_cancel n {n = r} some)

@@ -18,17 +18,17 @@ all_in_channels channels frames = map (in_channels channels) frames
 abbrev pub sample_or_zero : List (List ℤ) → ℕ → ℕ → ℤ
 sample_or_zero frames n c = slice_index_or (slice_index_or frames n []) c (pos 0)
 
--- the sample of channel c in frame n after conversion from the rate rin to rout: between the two frames where it lies
+-- the sample of channel c in frame n after conversion from the rate input_rate to output_rate: between the two frames where it lies
 abbrev pub sample_at_rate : ℕ → ℕ → List (List ℤ) → ℕ → ℕ → ℤ
-sample_at_rate rin rout frames n c =
-    let p = point_at rin rout n in
-    blended (sample_or_zero frames p.first c) (sample_or_zero frames (p.first + 1) c) p.weight rout
+sample_at_rate input_rate output_rate frames n c =
+    let p = point_at input_rate output_rate n in
+    blended (sample_or_zero frames p.first c) (sample_or_zero frames (p.first + 1) c) p.weight output_rate
 
--- frames of so many channels, from the rate rin to rout
+-- frames of so many channels, from the rate input_rate to output_rate
 abbrev pub frames_at_rate : ℕ → ℕ → ℕ → List (List ℤ) → List (List ℤ)
-frames_at_rate rin rout channels frames =
-    map (λ n. map (sample_at_rate rin rout frames n) (range_with_len 0 channels))
-    (range_with_len 0 (clip_len (length frames) rin rout))
+frames_at_rate input_rate output_rate channels frames =
+    map (λ n. map (sample_at_rate input_rate output_rate frames n) (range_with_len 0 channels))
+    (range_with_len 0 (clip_len (length frames) input_rate output_rate))
 
 -- the rate of a file. One that is refused has no frames, and this one stands for any
 abbrev pub rate_said : Result Wave WaveFault → ℕ

@@ -29,8 +29,8 @@ pub record IsSceneClip (clip : ClipData) (kept : List PageData) (fit : Conversio
   pub lawful : IsWaveOf clip.bytes clip.wave
   pub pages : kept ≡ pages_data clip.bytes clip.wave (page_count clip.wave.frames)
   pub conversion : IsConversion fit
-  pub rin : fit.rin ≡ clip.wave.rate
+  pub input_rate : fit.input_rate ≡ clip.wave.rate
   pub frames : fit.frames ≡ clip.wave.frames
-  pub rate : interpolator ≡ fit.rout
+  pub rate : interpolator ≡ fit.output_rate
   pub channels_least : 1 ≤ channels
   pub channels_most : channels ≤ 2

@@ -15,7 +15,7 @@ pub fn clip_has_samples()
 {}
 
 /// Nothing is heard of a file that is refused.
-pub fn nothing_heard_where_refused()
+pub fn no_frames_where_refused()
     ensures frames { (bytes : List ℕ) (rate channels : ℕ) (fault : WaveFault) →
         wave bytes ≡ Err fault → clip_frames bytes rate channels ≡ [] }
     ensures length { (bytes : List ℕ) (rate : ℕ) (fault : WaveFault) →

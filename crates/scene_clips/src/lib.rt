@@ -13,5 +13,5 @@ mod laws;
 mod mixdown;
 mod scene_clip;
 
-pub use laws::{clip_has_samples, nothing_heard_where_refused};
+pub use laws::{clip_has_samples, no_frames_where_refused};
 pub use scene_clip::SceneClip;

@@ -33,7 +33,7 @@ impl Model for SceneClip {
 
     ghost Value = { SceneClipData };
 
-    ghost view = { λ s. record { bytes = s.clip.bytes; rate = s.fit.rout; channels = s.channels } };
+    ghost view = { λ s. record { bytes = s.clip.bytes; rate = s.fit.output_rate; channels = s.channels } };
 
     ghost invariant = { λ s. (IsSceneClip s.clip s.pages.items s.fit s.interpolator s.channels) × (s.len ≡ length_of s.fit) };
 }

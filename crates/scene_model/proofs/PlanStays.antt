@@ -126,7 +126,7 @@ record IsFresh (first end : ℕ) (b : Bus) : Type 0 where
   from_first : first ≤ b.node
   below_end : b.node < end
   nowhere : b.to ≡ None
-  unit : b.gain ≡ limits.unit_gain
+  unit : b.gain ≡ limits.unity_gain
 
 All_any : {X : Type 0} (P : X → Type 0) → ((x : X) → P x) → (xs : List X) → All P xs
 All_any P each [] = All-nil P

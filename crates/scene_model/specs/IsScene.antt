@@ -11,7 +11,7 @@ use Rattle.scene_model.specs.declared.edit.Edit.TheVariants.{Attach, Detach, Set
 use Rattle.scene_model.specs.declared.edit.EditRow.{EditRow}
 use Rattle.scene_model.specs.Buses.{bus_count}
 use Rattle.scene_model.specs.Limits as limits
-use Rattle.scene_model.specs.Names.{is_name, is_file}
+use Rattle.scene_model.specs.Names.{is_name, is_file_name}
 use Rattle.scene_model.specs.SceneData.{SceneData}
 
 abbrev pub is_width : ℕ → Bool
@@ -22,7 +22,7 @@ abbrev pub is_time : ℕ → Bool
 is_time frame = nat_le frame limits.most_frames
 
 abbrev pub is_resource : Resource → Bool
-is_resource r = is_name r.name && is_file r.file
+is_resource r = is_name r.name && is_file_name r.file
 
 -- a sound's resource is one of these many, and a splitter has 2 to 4 outputs
 abbrev pub is_kind : ℕ → NodeKind → Bool

@@ -50,8 +50,8 @@ last_place = 140737488355327
 abbrev pub most_name_bytes : ℕ
 most_name_bytes = 64
 
-abbrev pub most_file_bytes : ℕ
-most_file_bytes = 255
+abbrev pub most_file_name_bytes : ℕ
+most_file_name_bytes = 255
 
 -- the most seeks of a node: with a place, their number fits a word of 64 bits
 abbrev pub most_seeks : ℕ
@@ -62,5 +62,5 @@ abbrev pub most_gain : ℕ
 most_gain = 1048576
 
 -- 1.0, in 1/65536
-abbrev pub unit_gain : ℕ
-unit_gain = 65536
+abbrev pub unity_gain : ℕ
+unity_gain = 65536

@@ -2,7 +2,7 @@
 use Rattle.std.specs.Prelude.{ℕ, Bool, ◌||◌, ◌&&◌, ◌==◌, nat_le, List, length}
 use Rattle.std.specs.List.{list_all}
 use Rattle.std.specs.Char.{is_ascii_alphanumeric}
-use Rattle.scene_model.specs.Limits.{most_name_bytes, most_file_bytes}
+use Rattle.scene_model.specs.Limits.{most_name_bytes, most_file_name_bytes}
 
 -- an ASCII letter or digit, `_`, `-` or `.`
 abbrev pub is_name_byte : ℕ → Bool
@@ -16,5 +16,5 @@ abbrev pub is_name : List ℕ → Bool
 is_name text = nat_le 1 (length text) && nat_le (length text) most_name_bytes && has_only_name_bytes text
 
 -- 1 to 255 bytes
-abbrev pub is_file : List ℕ → Bool
-is_file text = nat_le 1 (length text) && nat_le (length text) most_file_bytes
+abbrev pub is_file_name : List ℕ → Bool
+is_file_name text = nat_le 1 (length text) && nat_le (length text) most_file_name_bytes

@@ -26,7 +26,7 @@ state_of n = record { kind = n.kind; started = n.started; from = n.from; until =
 
 -- an output that is attached nowhere
 abbrev pub unattached : ℕ → ℕ → Bus
-unattached node out = record { node = node; out = out; to = None; gain = limits.unit_gain }
+unattached node out = record { node = node; out = out; to = None; gain = limits.unity_gain }
 
 -- that many outputs of a node, from 0 on
 abbrev pub outputs_of : ℕ → ℕ → List Bus

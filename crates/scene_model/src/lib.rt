@@ -42,9 +42,10 @@ pub use laws::{
     no_plan_has_a_cycle,
 };
 pub use limits::{
-    MAX_FILE_BYTES, MAX_GAIN, MAX_LENGTH, MAX_NAME_BYTES, MAX_PLACE, MAX_RATE, MAX_SEEKS, UNIT_GAIN,
+    MAX_FILE_NAME_BYTES, MAX_GAIN, MAX_LENGTH, MAX_NAME_BYTES, MAX_PLACE, MAX_RATE, MAX_SEEKS,
+    UNITY_GAIN,
 };
-pub use name::{is_file, is_name};
+pub use name::{is_file_name, is_name};
 pub use node::{Node, NodeKind};
 pub use node_state::NodeState;
 pub use order::{NumberedEdit, edits_in_order};

@@ -8,10 +8,10 @@ pub const MAX_LENGTH: u32 = 16_777_216;
 pub const MAX_NAME_BYTES: usize = 64;
 
 /// The most bytes of the name of a sound file.
-pub const MAX_FILE_BYTES: usize = 255;
+pub const MAX_FILE_NAME_BYTES: usize = 255;
 
 /// The gain that leaves a sample as it is, in 1/65536.
-pub const UNIT_GAIN: u32 = 65_536;
+pub const UNITY_GAIN: u32 = 65_536;
 
 /// The highest gain of a bus, 16.0, in 1/65536.
 pub const MAX_GAIN: u32 = 1_048_576;

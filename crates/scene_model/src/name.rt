@@ -1,7 +1,7 @@
 ghost use Rattle.std.specs.Prelude.{◌≡◌};
 ghost use Rattle.scene_model.specs.Names as spec;
 
-use crate::limits::{MAX_FILE_BYTES, MAX_NAME_BYTES};
+use crate::limits::{MAX_FILE_NAME_BYTES, MAX_NAME_BYTES};
 
 /// Whether a text may name a resource or a node: 1 to 64 bytes, each an ASCII letter or digit, `_`,
 /// `-` or `.`.
@@ -12,10 +12,10 @@ pub fn is_name(text: &str) -> bool
 }
 
 /// Whether a text may name a sound file: 1 to 255 bytes.
-pub fn is_file(text: &str) -> bool
-    ensures { result ≡ spec.is_file text.now }
+pub fn is_file_name(text: &str) -> bool
+    ensures { result ≡ spec.is_file_name text.now }
 {
-    !text.is_empty() && text.len() <= MAX_FILE_BYTES
+    !text.is_empty() && text.len() <= MAX_FILE_NAME_BYTES
 }
 
 fn has_only_name_bytes(text: &str) -> bool

@@ -2,7 +2,7 @@ ghost use Rattle.std.specs.Prelude.{◌≡◌, ◌≤◌, ◌<◌, ◌++◌, len
 ghost use Rattle.scene_model.specs.Opening as spec;
 
 use crate::bus::Bus;
-use crate::limits::UNIT_GAIN;
+use crate::limits::UNITY_GAIN;
 use crate::node::Node;
 use plain_data::OutOfMemory;
 use std::alloc::Global;
@@ -28,7 +28,7 @@ fn push_outputs(buses: &mut Vec<Bus>, node: u32, outputs: u8) -> Result<(), OutO
             node,
             out,
             to: None,
-            gain: UNIT_GAIN,
+            gain: UNITY_GAIN,
         })?;
     }
     Ok(())

@@ -31,7 +31,7 @@ bus_keys p nodes ms = do
   node ← node_at p nodes (codes "node") ms
   out ← output_at p ms
   to ← to_at p nodes ms
-  gain ← number_or p (codes "gain") (bounds which.Gain 0 4294967295) limits.unit_gain ms
+  gain ← number_or p (codes "gain") (bounds which.Gain 0 4294967295) limits.unity_gain ms
   Ok (record { node = node; out = out; to = to; gain = gain })
 
 -- the target is somebody, if there is one

@@ -17,7 +17,7 @@ use Rattle.scene_script.specs.TableRows.{rows_at}
 -- the name of a sound file has 1 to 255 bytes
 abbrev pub file_of : List ℕ → Result (List ℕ) SceneFault
 file_of text =
-    if nat_lt limits.most_file_bytes (length text) then Err (Limit which.FileName (pos (length text)) (pos limits.most_file_bytes))
+    if nat_lt limits.most_file_name_bytes (length text) then Err (Limit which.FileName (pos (length text)) (pos limits.most_file_name_bytes))
     else (if nat_lt (length text) 1 then Err (Limit which.FileName (pos (length text)) (pos 1)) else Ok text)
 
 -- the name of the sound file

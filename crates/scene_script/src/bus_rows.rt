@@ -15,7 +15,7 @@ use crate::place::Place;
 use crate::script_error::ScriptError;
 use crate::table_rows::table_rows;
 use plain_data::Rows;
-use scene_model::{BusRow, Node, UNIT_GAIN};
+use scene_model::{BusRow, Node, UNITY_GAIN};
 use std::alloc::Global;
 use toml::Table;
 
@@ -146,7 +146,7 @@ impl BusKeys {
         let node = node_at(row, place, nodes, "node")?;
         let out = output(row, place)?;
         let to = To::read(row, place, nodes)?;
-        let gain = number_or(row, place, "gain", GAIN, UNIT_GAIN)?;
+        let gain = number_or(row, place, "gain", GAIN, UNITY_GAIN)?;
         Ok(BusKeys {
             node,
             out,

@@ -3,7 +3,7 @@ ghost use Rattle.std.specs.List.{list_all, list_any};
 ghost use Rattle.std.specs.Str.{bytes_eq};
 ghost use Rattle.toml.specs.View.{table_view};
 ghost use Rattle.scene_model.specs.IsScene.{is_resource};
-ghost use Rattle.scene_model.specs.Names.{is_file};
+ghost use Rattle.scene_model.specs.Names.{is_file_name};
 ghost use Rattle.scene_script.specs.Checked.{Gives, GivesAs};
 ghost use Rattle.scene_script.specs.Reads.{Reads};
 ghost use Rattle.scene_script.specs.ResourceRows as spec;
@@ -15,7 +15,7 @@ use crate::place::Place;
 use crate::script_error::ScriptError;
 use crate::table_rows::table_rows;
 use plain_data::{OutOfMemory, Rows, Text};
-use scene_model::{MAX_FILE_BYTES, Resource};
+use scene_model::{MAX_FILE_NAME_BYTES, Resource};
 use std::alloc::Global;
 use std::marker::Model;
 use toml::Table;
@@ -105,15 +105,15 @@ impl<'a> ResourceRow<'a> {
 #[tactic(auto, unfolding(crate::specs::ResourceRows::file_at))]
 fn file<'a>(row: &'a Table, place: Place) -> Result<&'a str, SceneFault>
     ensures value { Reads result (spec.file_at place (table_view row.now)) }
-    ensures is_file { IfOk result (λ file. IsTrue (is_file file.now)) }
+    ensures is_file_name { IfOk result (λ file. IsTrue (is_file_name file.now)) }
 {
     let text = text(row, place, "file")?;
     let found = text.len() as i64;
-    if text.len() > MAX_FILE_BYTES {
+    if text.len() > MAX_FILE_NAME_BYTES {
         return Err(SceneFault::Limit {
             which: Which::FileName,
             found,
-            limit: MAX_FILE_BYTES as i64,
+            limit: MAX_FILE_NAME_BYTES as i64,
         });
     }
     if text.is_empty() {

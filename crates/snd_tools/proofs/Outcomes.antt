@@ -14,10 +14,6 @@ pub IfSome-at : {A : Type 0} (P : A → Type 0) (o : Option A) (x : A) → o ≡
 IfSome-at P None x is h = cc
 IfSome-at P (Some y) x is h = let same : y ≡ x = cc in subst P same h
 
-pub IfSome-map : {A : Type 0} {P Q : A → Type 0} (o : Option A) → ((x : A) → P x → Q x) → IfSome o P → IfSome o Q
-IfSome-map None f h = tt
-IfSome-map (Some x) f h = f x h
-
 -- ---- parts of the work, one after the other
 
 -- a part that ended ends what follows it

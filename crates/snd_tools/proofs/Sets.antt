@@ -2,6 +2,8 @@
 use Rattle.std.proofs.Common.{◌≡◌, ◌⊎◌, ◌<◌, ◌≤◌, ◌+◌, ◌-◌, ℕ, zero, suc, List, [], ◌∷◌, ◌++◌, map, Some, None, refl, ◌∙◌, ap, sym, subst, inl, inr, arith}
 use Rattle.std.specs.Option.{option_map}
 use Rattle.std.specs.List.{range_with_len}
+use Rattle.std.proofs.lemmas.List.FromFn.{map-range_with_len_more}
+use Rattle.plain_data.proofs.Lists.{map_range-join}
 use Rattle.snd_io.specs.declared.answers.Put.{Put}
 use Rattle.snd_io.specs.declared.answers.Put.TheVariants.{Done, Failed, OutOfMemory}
 use Rattle.snd_io.specs.Files.{Files, Told, put_file}
@@ -73,21 +75,10 @@ module _ (name bytes : List ℕ) where
 
 -- ---- the sounds
 
-map_range-join : {A : Type 0} (f : ℕ → A) (a m n : ℕ) → map f (range_with_len a (m + n)) ≡ map f (range_with_len a m) ++ map f (range_with_len (a + m) n)
-map_range-join f a zero n =
-    let e : 0 + n ≡ n = omega arith in
-    let k : a + 0 ≡ a = omega arith in
-    rw (e, k) refl
-map_range-join f a (suc m) n =
-    let e : suc m + n ≡ suc (m + n) = omega arith in
-    let k : a + 1 + m ≡ a + suc m = omega arith in
-    rw (e, ← k) (ap (λ xs. f a ∷ xs) (map_range-join f (a + 1) m n))
-
 outputs-more : (number : ℕ) (prefix : List ℕ) (i : ℕ) → sound_outputs number prefix (i + 1) ≡ sound_outputs number prefix i ++ sound_output number prefix i ∷ []
 unfolding sound_outputs
 outputs-more number prefix i =
-    let e : 0 + i ≡ i = omega arith in
-    map_range-join (sound_output number prefix) 0 i 1 ∙ ap (λ k. map (sound_output number prefix) (range_with_len 0 i) ++ sound_output number prefix k ∷ []) e
+    map-range_with_len_more (sound_output number prefix) 0 i i (omega arith)
 
 outputs-rest : ℕ → List ℕ → ℕ → ℕ → List Output
 outputs-rest number prefix i count = map (sound_output number prefix) (range_with_len i (count - i))

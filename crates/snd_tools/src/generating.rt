@@ -57,7 +57,7 @@ fn write_files<D: Depot>(alloc: Global, depot: &mut D, number: u32, prefix: &str
 {
     let mut draws = Draws::new(number);
     match write_sounds(alloc, depot, prefix, &mut draws) {
-        Put::Done => write_script(alloc, depot, prefix, &mut draws),
+        Put::Done => write_script(alloc, depot, prefix, draws),
         Put::Failed => Put::Failed,
         Put::OutOfMemory => Put::OutOfMemory,
     }
@@ -82,9 +82,9 @@ fn write_sounds<D: Depot>(alloc: Global, depot: &mut D, prefix: &str, draws: &mu
 }
 
 /// Writes the script, with the draws that follow those of the sounds.
-fn write_script<D: Depot>(alloc: Global, depot: &mut D, prefix: &str, draws: &mut Draws) -> Put
+fn write_script<D: Depot>(alloc: Global, depot: &mut D, prefix: &str, draws: Draws) -> Put
     requires { D.writing depot.old ≡ None }
-    ensures after { SetsAll result (script_outputs draws.old prefix.now) (D.files depot.old) (D.files depot.new) }
+    ensures after { SetsAll result (script_outputs draws prefix.now) (D.files depot.old) (D.files depot.new) }
     ensures closed { D.writing depot.new ≡ None }
     ensures cause { CountsFaults (D.faults depot.old) (D.faults depot.new) (put_failed result) }
 {

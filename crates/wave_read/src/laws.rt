@@ -21,6 +21,6 @@ pub fn wave_from_its_chunks()
 {}
 
 /// A wave that a file gives lies in it, with a lawful format and whole frames or blocks.
-pub fn wave_keeps_its_laws()
+pub fn a_wave_lies_in_its_file()
     ensures { (bytes : List ℕ) (w : Wave) → wave bytes ≡ Ok w → IsWaveOf bytes w }
 {}

@@ -27,6 +27,6 @@ mod wave_fault;
 
 pub use file::survey;
 pub use kind::Kind;
-pub use laws::{one_chunk_list, wave_from_its_chunks, wave_keeps_its_laws};
+pub use laws::{a_wave_lies_in_its_file, one_chunk_list, wave_from_its_chunks};
 pub use wave::Wave;
 pub use wave_fault::WaveFault;

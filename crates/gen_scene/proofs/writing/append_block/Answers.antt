@@ -1,5 +1,6 @@
 use Rattle.std.proofs.Common.{◌∙◌}
-use Rattle.gen_scene.proofs.Blocks.{IfSome-map, one-append}
+use Rattle.plain_data.proofs.Lists.{IfSome-map}
+use Rattle.gen_scene.proofs.Blocks.{one-append}
 use Rattle.gen_scene.proofs.writing.append_block.Goals as goal
 
 pub returns-in-Ok-clause-after : goal.returns-in-Ok-clause-after

@@ -1,6 +1,7 @@
 use Rattle.std.proofs.Common.{◌∙◌, rules}
 use Rattle.snd_io.specs.declared.answers.Put.TheVariants.{Done, Failed, OutOfMemory}
-use Rattle.gen_scene.proofs.Blocks.{IfSome-map, IfSome-both, one-append, still-open, header-then, header-failed, header-out_of_memory, header-of, samples-of, run-of}
+use Rattle.plain_data.proofs.Lists.{IfSome-map}
+use Rattle.gen_scene.proofs.Blocks.{IfSome-both, one-append, still-open, header-then, header-failed, header-out_of_memory, header-of, samples-of, run-of}
 use Rattle.gen_scene.proofs.writing.append_sound.Goals as goal
 
 pub returns-in-Failed-clause-after : goal.returns-in-Failed-clause-after

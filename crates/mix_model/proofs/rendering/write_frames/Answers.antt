@@ -3,6 +3,7 @@ use Rattle.scene_model.specs.SceneData.{SceneData}
 use Rattle.snd_io.specs.declared.answers.Put.TheVariants.{Done}
 use Rattle.snd_io.specs.Runs.{writes-then}
 use Rattle.std.specs.Option.{option_map}
+use Rattle.clip_decode.specs.Frames.{interleaved}
 use Rattle.mix_model.specs.Mix.{frames_from}
 use Rattle.mix_model.specs.Rendering.{data_of, summary_of, frames_before}
 use Rattle.mix_model.proofs.Written.{data_rest, all_frames, stopped_failed, stopped_out_of_memory, nothing}
@@ -51,6 +52,7 @@ returns-clause-summary g c =
     λ done. now.rendered.summary_is ∙ ap (summary_of s) (all_frames s c.args.blocks.now.player.clips.items c.loop-blocks.blocks now.clips whole)
 
 pub loop-blocks-init : goal.loop-blocks-init
+unfolding interleaved
 loop-blocks-init g c =
     let s = c.args.scene.now in
     let empty : data_of s (frames_before s c.args.blocks.now) ≡ [] = ap (λ t. data_of s (frames_from c.args.blocks.now.player.clips.items s 0 t)) c.requires.start in

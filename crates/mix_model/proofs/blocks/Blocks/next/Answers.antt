@@ -3,7 +3,7 @@ use Rattle.scene_clips.specs.SceneClipData.{SceneClipData}
 use Rattle.scene_model.specs.SceneData.{SceneData}
 use Rattle.wave_write.specs.Samples.{packed}
 use Rattle.mix_model.specs.Mix.{frames_from}
-use Rattle.mix_model.specs.Output.{interleaved}
+use Rattle.clip_decode.specs.Frames.{interleaved}
 use Rattle.mix_model.specs.Rendering.{data_of, summary_of, frames_before}
 use Rattle.mix_model.specs.Summary.{summary}
 use Rattle.mix_model.proofs.Written.{samples-join, data-join, samples_24}

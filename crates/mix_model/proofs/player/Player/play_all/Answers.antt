@@ -1,9 +1,19 @@
-use Rattle.std.proofs.Common.{arith, ap, ◌∙◌, ◌++◌, List}
+use Rattle.std.proofs.Common.{arith, ap, refl, sym, append-nil, ◌∙◌, ◌++◌, List}
+use Rattle.clip_decode.specs.Frames.{interleaved}
 use Rattle.scene_clips.specs.SceneClipData.{SceneClipData}
 use Rattle.mix_model.specs.Mix.{moment}
 use Rattle.mix_model.specs.Signals.{frame}
 use Rattle.mix_model.proofs.Frames.{frames_more}
 use Rattle.mix_model.proofs.player.Player.play_all.Goals as goal
+
+pub loop-init : goal.loop-init
+unfolding interleaved
+loop-init c = record {
+  before = c.requires.before;
+  time = omega arith;
+  clips = refl;
+  samples = sym (append-nil c.args.samples.now.items);
+}
 
 pub loop-preserved : goal.loop-preserved
 loop-preserved c =

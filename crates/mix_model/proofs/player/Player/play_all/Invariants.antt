@@ -1,6 +1,6 @@
 use Rattle.std.proofs.Common.{◌≡◌, ◌+◌, ◌++◌}
 use Rattle.mix_model.specs.Mix.{frames_from}
-use Rattle.mix_model.specs.Output.{interleaved}
+use Rattle.clip_decode.specs.Frames.{interleaved}
 use Rattle.mix_model.specs.Playing.{IsBefore}
 use Rattle.mix_model.proofs.player.Player.play_all.Given as goal
 

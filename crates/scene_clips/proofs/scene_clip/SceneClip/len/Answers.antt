@@ -8,4 +8,4 @@ returns-clause-value c =
     let kept = c.self.invariant.0 in
     rw (← c.self.view_is)
     (c.self.invariant.1
-    ∙ sym (fit_length inside.clip.bytes inside.clip.wave inside.fit kept.surveyed kept.rin kept.frames))
+    ∙ sym (fit_length inside.clip.bytes inside.clip.wave inside.fit kept.surveyed kept.input_rate kept.frames))

@@ -12,7 +12,7 @@ pub at-point-requires-clause-frame : goal.at-point-requires-clause-frame
 at-point-requires-clause-frame c =
     let inside = c.self.inside in
     let kept = c.self.invariant.0 in
-    rw (← fit_length inside.clip.bytes inside.clip.wave inside.fit kept.surveyed kept.rin kept.frames)
+    rw (← fit_length inside.clip.bytes inside.clip.wave inside.fit kept.surveyed kept.input_rate kept.frames)
     (rw (← c.self.view_is) at c.requires.frame)
 
 pub overflow_add-point : goal.overflow_add-point
@@ -26,10 +26,10 @@ returns-then-point-eq0-clause-value c =
     let second = sample_or_zero (all_in_channels inside.channels (frames inside.clip.bytes)) (c.at-point.result.first + 1) c.args.channel in
     let fits : FitsSigned w32 first = search rules in
     rw (to_z-of_z w32 first fits, ← c.self.view_is)
-    (sym (first_alone first second inside.fit.rout kept.conversion.some_out)
-    ∙ ap (λ weight. blended first second weight inside.fit.rout) (sym c.if-point-eq0.true)
+    (sym (first_alone first second inside.fit.output_rate kept.conversion.some_out)
+    ∙ ap (λ weight. blended first second weight inside.fit.output_rate) (sym c.if-point-eq0.true)
     ∙ blended_is inside.clip.bytes inside.clip.wave inside.fit inside.channels c.args.n c.args.channel c.at-point.result first second
-    kept.surveyed kept.rin c.at-point.ensures.point (rw (← c.self.view_is) at c.sample_in_file-first.ensures.value) refl)
+    kept.surveyed kept.input_rate c.at-point.ensures.point (rw (← c.self.view_is) at c.sample_in_file-first.ensures.value) refl)
 
 pub returns-clause-value : goal.returns-clause-value
 returns-clause-value c =
@@ -43,5 +43,5 @@ returns-clause-value c =
     rw (to_z-of_z w32 c.blend.result fits, ← c.self.view_is)
     ((rw (to_z-of_z w32 first fits_first, to_z-of_z w32 second fits_second, kept.rate) at c.blend.ensures.between)
     ∙ blended_is inside.clip.bytes inside.clip.wave inside.fit inside.channels c.args.n c.args.channel c.at-point.result first second
-    kept.surveyed kept.rin c.at-point.ensures.point (rw (← c.self.view_is) at c.sample_in_file-first.ensures.value)
+    kept.surveyed kept.input_rate c.at-point.ensures.point (rw (← c.self.view_is) at c.sample_in_file-first.ensures.value)
     (rw (← c.self.view_is) at c.sample_in_file-second.ensures.value))

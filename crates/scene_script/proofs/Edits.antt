@@ -23,7 +23,7 @@ use Rattle.scene_script.specs.declared.placed_edit.PlacedEdit.{PlacedEdit}
 use Rattle.scene_script.specs.declared.place.Place.{Place}
 use Rattle.scene_script.specs.declared.fault.TableKind.TheVariants as kinds
 use Rattle.scene_script.specs.Fields.{place}
-use Rattle.scene_script.specs.Making.{placed, bus_edits, placed_row, all_edits}
+use Rattle.scene_script.specs.Wiring.{placed, bus_edits, placed_row, all_edits}
 
 pub all_at : {X : Type 0} (p : X → Bool) (xs : List X) (i : ℕ) (d : X) → list_all p xs ≡ true → i < length xs → p (get_or xs i d) ≡ true
 all_at p [] i d all within = absurd (omega arith)

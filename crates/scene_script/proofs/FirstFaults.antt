@@ -7,7 +7,7 @@ use Rattle.scene_script.specs.declared.fault.SceneFault.{SceneFault}
 use Rattle.scene_script.specs.declared.placed_edit.PlacedEdit.{PlacedEdit}
 use Rattle.scene_script.specs.Checked.{◌>>=◌, each}
 use Rattle.scene_script.specs.FirstFault.{HasFirst, RefusesFirst}
-use Rattle.scene_script.specs.Making.{done, all_done}
+use Rattle.scene_script.specs.Wiring.{done, all_done}
 
 bind_later : {A B C : Type 0} (r : Result A SceneFault) (f : A → Result B SceneFault) (g : B → Result C SceneFault) → ((r >>= f) >>= g) ≡ (r >>= λ x. f x >>= g)
 bind_later (Ok x) f g = refl
@@ -17,7 +17,7 @@ bind_same : {A B : Type 0} (r : Result A SceneFault) (f g : A → Result B Scene
 bind_same (Ok x) f g same = same x
 bind_same (Err e) f g same = refl
 
-each_append : {A B : Type 0} (one : List B → A → Result B SceneFault) (start : List B) (xs ys : List A) → each one start (xs ++ ys) ≡ (each one start xs >>= λ read. each one read ys)
+pub each_append : {A B : Type 0} (one : List B → A → Result B SceneFault) (start : List B) (xs ys : List A) → each one start (xs ++ ys) ≡ (each one start xs >>= λ read. each one read ys)
 each_append one start [] ys = refl
 each_append one start (x ∷ xs) ys =
     bind_same (one start x) _ _ (λ y. each_append one (start ++ y ∷ []) xs ys)

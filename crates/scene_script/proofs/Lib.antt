@@ -1,6 +1,8 @@
 pub mod Documents
 pub mod Edits
 pub mod FirstFaults
-pub mod Kept
 pub mod Keys
+pub mod References
 pub mod Rows
+pub mod RowsRead
+pub mod SceneLaws

@@ -34,12 +34,12 @@ bus_keys p nodes ms = do
   gain ← number_or p (codes "gain") (bounds which.Gain 0 4294967295) limits.unity_gain ms
   Ok (record { node = node; out = out; to = to; gain = gain })
 
--- the target is somebody, if there is one
+-- the name of the target is that of a row or of the endpoint, if there is one
 abbrev pub known_to : Place → To → Result (Option ℕ) SceneFault
 known_to p Nowhere = Ok None
 known_to p (Named to) = known_name p to >>= λ n. Ok (Some n)
 
--- the row, where the names are somebody's
+-- the row, where the names are those of rows
 unfoldable pub known_bus : Place → BusKeys → Result BusRow SceneFault
 known_bus p b = do
   node ← known_name p b.node

@@ -110,7 +110,7 @@ edit_keys p nodes w ms = do
   editor ← number_or p (codes "editor") (bounds which.Editor 0 limits.last_editor) 0 ms
   Ok (record { at = at; node = node; out = out; to = to; value = value; editor = editor })
 
--- the edit that an op stands for, at that node, where its target is somebody
+-- the edit that an op stands for, at that node, where its target is known
 abbrev pub edit_of : Place → OpWord → EditKeys → ℕ → Result Edit SceneFault
 edit_of p op.Attach k node = known_name p k.to >>= λ to. Ok (edit.Attach node k.out to)
 edit_of p op.Detach k node = Ok (edit.Detach node k.out)
@@ -122,7 +122,7 @@ edit_of p op.Until k node = Ok (edit.Until node k.value)
 edit_of p op.Seek k node = Ok (edit.Seek node k.value)
 edit_of p op.Loop k node = Ok (edit.Loop node (k.value == 1))
 
--- the row, where the names are somebody's
+-- the row, where the names are those of rows
 unfoldable pub known_edit : Place → OpWord → EditKeys → Result EditRow SceneFault
 known_edit p w k = do
   node ← known_name p k.node

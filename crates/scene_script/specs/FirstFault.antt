@@ -5,7 +5,7 @@ use Rattle.scene_model.specs.Plans.{after}
 use Rattle.scene_script.specs.declared.fault.SceneFault.{SceneFault}
 use Rattle.scene_script.specs.declared.placed_edit.PlacedEdit.{PlacedEdit}
 use Rattle.scene_script.specs.Checked.{each}
-use Rattle.scene_script.specs.Making.{done, all_done}
+use Rattle.scene_script.specs.Wiring.{done, all_done}
 
 -- Some row has the fault, by what the rows before it give, and each of those is read: none of them has a fault.
 pub record HasFirst {A B : Type 0} (one : List B → A → Result B SceneFault) (start : List B) (rows : List A) (f : SceneFault) : Type 0 where

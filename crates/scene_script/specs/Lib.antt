@@ -4,12 +4,13 @@ pub mod EditRows
 pub mod Fields
 pub mod FirstFault
 pub mod Headers
-pub mod Kept
 pub mod KeysRead
-pub mod Making
 pub mod Names
 pub mod NodeRows
 pub mod Reads
 pub mod ResourceRows
+pub mod RowsRead
+pub mod SceneLaws
 pub mod Script
 pub mod TableRows
+pub mod Wiring

@@ -26,7 +26,7 @@ node_named nodes name = position (λ (n : Node). bytes_eq n.name name) nodes
 abbrev pub target_named : List Node → List ℕ → Option ℕ
 target_named nodes name = if bytes_eq name endpoint then Some (length nodes) else node_named nodes name
 
--- the number of what a name is said to refer to, and none where the name is nobody's
+-- the number of what the name at a key refers to, and none where no row has the name
 unfoldable pub resource_at : Place → List Resource → List ℕ → Members → Result (Option ℕ) SceneFault
 resource_at p resources key ms = name_at p key ms >>= λ name. Ok (resource_named resources name)
 
@@ -36,7 +36,7 @@ node_at p nodes key ms = name_at p key ms >>= λ name. Ok (node_named nodes name
 unfoldable pub target_at : Place → List Node → List ℕ → Members → Result (Option ℕ) SceneFault
 target_at p nodes key ms = name_at p key ms >>= λ name. Ok (target_named nodes name)
 
--- the name is somebody's
+-- a row has the name
 abbrev pub known_name : Place → Option ℕ → Result ℕ SceneFault
 known_name p None = Err (UnknownName p.table p.row)
 known_name p (Some n) = Ok n

@@ -1,5 +1,5 @@
 -- The rows of `node`.
-use Rattle.std.specs.Prelude.{ℕ, ◌+◌, pos, true, false, ◌||◌, nat_lt, if◌then◌else◌, codes, List, [], ◌∷◌, length, Result, Ok, Err}
+use Rattle.std.specs.Prelude.{ℕ, ◌+◌, pos, true, false, ◌||◌, if◌then◌else◌, codes, List, [], ◌∷◌, length, Result, Ok, Err}
 use Rattle.std.specs.List.{list_any}
 use Rattle.std.specs.Str.{bytes_eq}
 use Rattle.toml.specs.Data.{Members}
@@ -10,7 +10,7 @@ use Rattle.scene_model.specs.declared.resource.Resource.{Resource}
 use Rattle.scene_model.specs.Buses.{bus_count}
 use Rattle.scene_model.specs.Limits as limits
 use Rattle.scene_script.specs.declared.fault.SceneFault.{SceneFault}
-use Rattle.scene_script.specs.declared.fault.SceneFault.TheVariants.{WrongKind, DoubleName, Limit}
+use Rattle.scene_script.specs.declared.fault.SceneFault.TheVariants.{WrongKind, DoubleName}
 use Rattle.scene_script.specs.declared.fault.Which.TheVariants as which
 use Rattle.scene_script.specs.declared.fault.TableKind.TheVariants as kinds
 use Rattle.scene_script.specs.declared.node_keys.KindWord.{KindWord}
@@ -20,7 +20,7 @@ use Rattle.scene_script.specs.declared.node_keys.OwnKeys.TheVariants as own
 use Rattle.scene_script.specs.declared.node_keys.Activity.{Activity}
 use Rattle.scene_script.specs.declared.place.Place.{Place}
 use Rattle.scene_script.specs.Checked.{◌>>=◌, each}
-use Rattle.scene_script.specs.Fields.{place, bounds, number_at, number_or, flag_or, text_at, name_at, known_keys}
+use Rattle.scene_script.specs.Fields.{place, within, bounds, number_at, number_or, flag_or, text_at, name_at, known_keys}
 use Rattle.scene_script.specs.Names.{endpoint, resource_at, known_name}
 use Rattle.scene_script.specs.TableRows.{rows_at}
 
@@ -110,9 +110,7 @@ node_rows resources rows = each (node_row resources) [] rows
 
 -- the nodes have no more output buses than allowed
 abbrev pub few_buses : List Node → Result (Unit {0}) SceneFault
-few_buses nodes =
-    if nat_lt limits.most_buses (bus_count nodes) then Err (Limit which.Buses (pos (bus_count nodes)) (pos limits.most_buses))
-    else Ok tt
+few_buses nodes = within (bounds which.Buses 0 limits.most_buses) (pos (bus_count nodes)) >>= λ buses. Ok tt
 
 -- the nodes of a script
 unfoldable pub nodes : List Resource → Members → Result (List Node) SceneFault

@@ -1,24 +1,22 @@
 -- The rows of `resource`.
-use Rattle.std.specs.Prelude.{ℕ, ◌+◌, pos, nat_lt, if◌then◌else◌, codes, List, [], ◌∷◌, length, Result, Ok, Err}
+use Rattle.std.specs.Prelude.{ℕ, ◌+◌, pos, if◌then◌else◌, codes, List, [], ◌∷◌, length, Result, Ok, Err}
 use Rattle.std.specs.List.{list_any}
 use Rattle.std.specs.Str.{bytes_eq}
 use Rattle.toml.specs.Data.{Members}
 use Rattle.scene_model.specs.declared.resource.Resource.{Resource}
 use Rattle.scene_model.specs.Limits as limits
 use Rattle.scene_script.specs.declared.fault.SceneFault.{SceneFault}
-use Rattle.scene_script.specs.declared.fault.SceneFault.TheVariants.{DoubleName, Limit}
+use Rattle.scene_script.specs.declared.fault.SceneFault.TheVariants.{DoubleName}
 use Rattle.scene_script.specs.declared.fault.Which.TheVariants as which
 use Rattle.scene_script.specs.declared.fault.TableKind.TheVariants as kinds
 use Rattle.scene_script.specs.declared.place.Place.{Place}
 use Rattle.scene_script.specs.Checked.{◌>>=◌, each}
-use Rattle.scene_script.specs.Fields.{place, text_at, name_at, known_keys}
+use Rattle.scene_script.specs.Fields.{place, bounds, within, text_at, name_at, known_keys}
 use Rattle.scene_script.specs.TableRows.{rows_at}
 
 -- the name of a sound file has 1 to 255 bytes
 abbrev pub file_of : List ℕ → Result (List ℕ) SceneFault
-file_of text =
-    if nat_lt limits.most_file_name_bytes (length text) then Err (Limit which.FileName (pos (length text)) (pos limits.most_file_name_bytes))
-    else (if nat_lt (length text) 1 then Err (Limit which.FileName (pos (length text)) (pos 1)) else Ok text)
+file_of text = within (bounds which.FileName 1 limits.most_file_name_bytes) (pos (length text)) >>= λ bytes. Ok text
 
 -- the name of the sound file
 unfoldable pub file_at : Place → Members → Result (List ℕ) SceneFault

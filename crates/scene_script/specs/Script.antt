@@ -11,7 +11,7 @@ use Rattle.scene_script.specs.BusRows as bus_rows
 use Rattle.scene_script.specs.Checked.{◌>>=◌}
 use Rattle.scene_script.specs.EditRows as edit_rows
 use Rattle.scene_script.specs.Headers as headers
-use Rattle.scene_script.specs.Making.{wired}
+use Rattle.scene_script.specs.Wiring.{wired}
 use Rattle.scene_script.specs.NodeRows as node_rows
 use Rattle.scene_script.specs.ResourceRows as resource_rows
 

@@ -1,13 +1,13 @@
 -- The rows of one kind.
-use Rattle.std.specs.Prelude.{ℕ, pos, nat_lt, if◌then◌else◌, List, [], ◌∷◌, length, Result, Ok, Err}
+use Rattle.std.specs.Prelude.{ℕ, pos, List, [], ◌∷◌, length, Result, Ok, Err}
 use Rattle.toml.specs.Data.{Data, array, table, Items, item, no_items, Members, get_member}
 use Rattle.scene_script.specs.declared.fault.SceneFault.{SceneFault}
-use Rattle.scene_script.specs.declared.fault.SceneFault.TheVariants.{WrongKind, Limit}
+use Rattle.scene_script.specs.declared.fault.SceneFault.TheVariants.{WrongKind}
 use Rattle.scene_script.specs.declared.fault.Which.{Which}
 use Rattle.scene_script.specs.declared.fault.TableKind.{TableKind}
 use Rattle.scene_script.specs.declared.place.Place.{Place}
 use Rattle.scene_script.specs.Checked.{◌>>=◌, each}
-use Rattle.scene_script.specs.Fields.{place, default_or}
+use Rattle.scene_script.specs.Fields.{place, bounds, within, default_or}
 
 -- the items of an array as a list
 abbrev pub item_list : Items → List Data
@@ -30,8 +30,7 @@ tables_of p _ = Err (WrongKind p.table p.row)
 
 -- there are no more rows than allowed
 abbrev pub at_most : Which → ℕ → List Members → Result (List Members) SceneFault
-at_most which most rows =
-    if nat_lt most (length rows) then Err (Limit which (pos (length rows)) (pos most)) else Ok rows
+at_most which most rows = within (bounds which 0 most) (pos (length rows)) >>= λ count. Ok rows
 
 -- the rows at a key, which is an array of tables of at most that many; none where the key is absent
 unfoldable pub rows_at : TableKind → List ℕ → Which → ℕ → Members → Result (List Members) SceneFault

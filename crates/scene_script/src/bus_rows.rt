@@ -89,7 +89,7 @@ fn check_keys(row: &Table, place: Place) -> Result<(), SceneFault>
 }
 
 /// Where a row attaches its bus: nowhere, or to the node or endpoint of a name, by its number where
-/// the name is somebody's.
+/// a row has the name.
 #[derive(Clone, Copy)]
 pub(crate) enum To {
     Nowhere,
@@ -155,7 +155,7 @@ impl BusKeys {
         })
     }
 
-    /// The row, where its names are somebody's.
+    /// The row, where its names are those of rows.
     #[tactic(auto, unfolding(crate::specs::BusRows::known_bus))]
     fn known(self, place: Place, nodes: usize) -> Result<BusRow, SceneFault>
         requires { IsBusKeys nodes self }

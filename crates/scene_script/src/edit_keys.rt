@@ -66,7 +66,7 @@ impl EditKeys {
         })
     }
 
-    /// The row, where its names are somebody's.
+    /// The row, where its names are those of rows.
     #[tactic(auto, unfolding(crate::specs::EditRows::known_edit))]
     pub(crate) fn known(self, place: Place, op: OpWord, nodes: usize) -> Result<EditRow, SceneFault>
         requires { IsEditKeys nodes op self }
@@ -82,7 +82,7 @@ impl EditKeys {
         })
     }
 
-    /// The edit that the op stands for, at that node, where its target is somebody.
+    /// The edit that the op stands for, at that node, where its target is known.
     fn edit(self, place: Place, op: OpWord, node: u32, nodes: usize) -> Result<Edit, SceneFault>
         requires keys { IsEditKeys nodes op self }
         requires node { node < nodes }

@@ -1,5 +1,3 @@
-ghost use Rattle.std.specs.Prelude.{◌≡◌, ◌<◌, ◌^◌, pos};
-
 use scene_model::Reply;
 
 /// A table of a script: its top level, or a kind of row.
@@ -61,12 +59,13 @@ pub enum Which {
     LiveLength,
 }
 
-/// Why a text is no script of a scene. Rows count from 1, and row 0 is the table as a whole.
+/// Why a text is no script of a scene. `row` counts the rows of `table` from 1; the number 0 stands
+/// for the table as a whole.
 #[derive(Debug, Clone, Copy, PartialEq, Eq)]
 pub enum SceneFault {
     /// The bytes aren't a TOML document.
     NotToml,
-    /// The version of the script's form is another than 1.
+    /// The version of the script's form is `n`, another than 1.
     Version {
         n: i64,
     },
@@ -75,8 +74,8 @@ pub enum SceneFault {
         table: TableKind,
         row: u32,
     },
-    /// A value is of another kind than its key has, a name isn't of the form of names, or a table
-    /// isn't an array of tables.
+    /// A value is of another type than its key has, `kind` or `op` is no known word, a name hasn't
+    /// the form of names, or `resource`, `node`, `bus` or `edit` isn't an array of tables.
     WrongKind {
         table: TableKind,
         row: u32,
@@ -86,7 +85,7 @@ pub enum SceneFault {
         table: TableKind,
         row: u32,
     },
-    /// The name of a resource or a node is nobody's.
+    /// The row refers to a resource or a node by a name that no row has.
     UnknownName {
         table: TableKind,
         row: u32,
@@ -109,18 +108,4 @@ pub enum SceneFault {
         row: u32,
         reply: Reply,
     },
-}
-
-impl SceneFault {
-    /// There are more of something than the greatest number allowed.
-    pub(crate) fn too_many(which: Which, found: usize, most: u32) -> SceneFault
-        requires { found < 2 ^ 63 }
-        ensures { result ≡ SceneFault.Limit which (pos found) (pos most) }
-    {
-        SceneFault::Limit {
-            which,
-            found: found as i64,
-            limit: i64::from(most),
-        }
-    }
 }

@@ -157,10 +157,7 @@ pub(crate) fn text<'a>(table: &'a Table, place: Place, key: &str) -> Result<&'a 
 fn text_of(value: &Value, place: Place) -> Result<&str, SceneFault>
     ensures { Reads result (spec.text_of place (view value.now)) }
 {
-    match value.as_str() {
-        Some(text) => Ok(text),
-        None => Err(place.wrong_kind()),
-    }
+    value.as_str().ok_or(place.wrong_kind())
 }
 
 /// The name at a key, which needs to be there.

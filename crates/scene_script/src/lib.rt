@@ -11,7 +11,7 @@
 //! 1. the bytes aren't a TOML document;
 //! 2. the version, then a key at the top that isn't known, then the numbers at the top;
 //! 3. for `resource`, `node`, `bus` and `edit` in this order: whether it is an array of tables, the
-//!    number of its rows, and then its rows. Behind the nodes comes the number of all output buses;
+//!    number of its rows, and then its rows. After those of `node` comes the number of all output buses;
 //! 4. the edits that the rows stand for, in a plan of the nodes alone: each bus row is a gain edit
 //!    and, where it has a target, an attach edit; then come the edits in the order of their frames
 //!    and rows. Each must be done.
@@ -45,6 +45,9 @@ mod script_error;
 mod table_rows;
 
 pub use fault::{SceneFault, TableKind, Which};
-pub use laws::{edits_are_done, faults_are_the_first, names_are_distinct};
+pub use laws::{
+    edits_are_done, faults_are_the_first, names_are_distinct, references_are_by_name,
+    rows_are_read_in_order,
+};
 pub use read::read_scene;
 pub use script_error::ScriptError;

@@ -61,7 +61,7 @@ pub(crate) fn target_at(
     Ok(target_named(nodes, name))
 }
 
-/// The number, where the name is somebody's.
+/// The number, where a row has the name.
 pub(crate) fn known_name(place: Place, number: Option<u32>) -> Result<u32, SceneFault>
     ensures { result ≡ spec.known_name place number }
 {
@@ -73,13 +73,10 @@ fn resource_named(resources: &[Resource], name: &str) -> Option<u32>
     ensures value { result ≡ spec.resource_named resources.now name.now }
     ensures below { IfSome result (λ n. n < length resources.now) }
 {
-    match resource_place(resources, name) {
-        Some(place) => Some(place as u32),
-        None => None,
-    }
+    resource_index(resources, name).map(|index| index as u32)
 }
 
-fn resource_place(resources: &[Resource], name: &str) -> Option<usize>
+fn resource_index(resources: &[Resource], name: &str) -> Option<usize>
     ensures value { result ≡ position (λ r. bytes_eq r.name name.now) resources.now }
     ensures below { IfSome result (λ n. n < length resources.now) }
 {
@@ -104,13 +101,10 @@ fn node_named(nodes: &[Node], name: &str) -> Option<u32>
     ensures value { result ≡ spec.node_named nodes.now name.now }
     ensures below { IfSome result (λ n. n < length nodes.now) }
 {
-    match node_place(nodes, name) {
-        Some(place) => Some(place as u32),
-        None => None,
-    }
+    node_index(nodes, name).map(|index| index as u32)
 }
 
-fn node_place(nodes: &[Node], name: &str) -> Option<usize>
+fn node_index(nodes: &[Node], name: &str) -> Option<usize>
     ensures value { result ≡ position (λ n. bytes_eq n.name name.now) nodes.now }
     ensures below { IfSome result (λ n. n < length nodes.now) }
 {

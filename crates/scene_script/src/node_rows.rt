@@ -7,6 +7,7 @@ ghost use Rattle.scene_model.specs.IsScene.{is_node};
 ghost use Rattle.scene_script.specs.Checked.{Gives, GivesAs};
 ghost use Rattle.scene_script.specs.NodeRows as spec;
 
+use crate::bounds::Bounds;
 use crate::fault::{SceneFault, TableKind, Which};
 use crate::fields::name;
 use crate::limits::{MAX_BUSES, MAX_NODES};
@@ -20,6 +21,13 @@ use scene_model::{Node, NodeKind, Resource};
 use std::alloc::Global;
 use std::marker::Model;
 use toml::Table;
+
+/// The output buses of all nodes.
+const BUSES: Bounds = Bounds {
+    which: Which::Buses,
+    least: 0,
+    most: MAX_BUSES as u64,
+};
 
 /// The nodes of a script.
 #[tactic(auto, unfolding(crate::specs::NodeRows::nodes))]
@@ -53,10 +61,7 @@ fn check_buses(nodes: &[Node]) -> Result<(), SceneFault>
     ensures value { result ≡ spec.few_buses nodes.now }
     ensures few { IfOk result (λ _. bus_count nodes.now ≤ 256) }
 {
-    let count = bus_count(nodes);
-    if count > MAX_BUSES {
-        return Err(SceneFault::too_many(Which::Buses, count as usize, MAX_BUSES));
-    }
+    BUSES.checked(i64::from(bus_count(nodes)))?;
     Ok(())
 }
 

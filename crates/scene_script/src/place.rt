@@ -2,7 +2,8 @@ ghost use Rattle.std.specs.Prelude.{◌≡◌};
 
 use crate::fault::{SceneFault, TableKind};
 
-/// A row of a script, by its table and its number there, from 1. Row 0 is the table as a whole.
+/// A row of a script, by its table and its number there, from 1; the number 0 stands for the table
+/// as a whole.
 #[derive(Clone, Copy)]
 pub(crate) struct Place {
     pub(crate) table: TableKind,

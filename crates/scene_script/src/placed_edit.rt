@@ -5,7 +5,7 @@ ghost use Rattle.scene_model.specs.IsScene.{is_bus_row, is_edit, is_edit_row};
 ghost use Rattle.scene_model.specs.Opening.{row_edits, unwired};
 ghost use Rattle.scene_model.specs.Plans.{after};
 ghost use Rattle.scene_script.specs.Checked.{Gives};
-ghost use Rattle.scene_script.specs.Making as spec;
+ghost use Rattle.scene_script.specs.Wiring as spec;
 
 use crate::fault::{SceneFault, TableKind};
 use crate::place::Place;
@@ -42,7 +42,7 @@ impl PlacedEdit {
 
 /// Tests that each edit of the script is done: the bus rows in order, and then the edits in the
 /// order of their frames and rows, in a plan of the nodes alone.
-#[tactic(auto, unfolding(crate::specs::Making::wired))]
+#[tactic(auto, unfolding(crate::specs::Wiring::wired))]
 pub(crate) fn check_edits(
     alloc: Global,
     nodes: &[Node],
@@ -98,7 +98,7 @@ fn all_edits(
     Ok(all)
 }
 
-/// Puts the edits of bus rows behind the others.
+/// Appends the edits of bus rows.
 fn push_buses(all: &mut Vec<PlacedEdit>, buses: &[BusRow]) -> Result<(), OutOfMemory>
     requires { length buses.now ≤ 256 }
     ensures { IfOk result (λ _. all.new.items ≡ all.old.items ++ spec.bus_edits 1 buses.now) }
@@ -113,8 +113,7 @@ fn push_buses(all: &mut Vec<PlacedEdit>, buses: &[BusRow]) -> Result<(), OutOfMe
     Ok(())
 }
 
-/// Puts the edits of a bus row behind the others: a gain edit and, where the row has a target, an
-/// attach edit.
+/// Appends the edits of a bus row: a gain edit and, where the row has a target, an attach edit.
 fn push_bus(all: &mut Vec<PlacedEdit>, place: Place, bus: &BusRow) -> Result<(), OutOfMemory>
     ensures { IfOk result (λ _. all.new.items ≡ all.old.items ++ map (spec.placed place) (row_edits bus.now)) }
 {

@@ -8,6 +8,7 @@ ghost use Rattle.scene_script.specs.Checked.{Gives, GivesAs};
 ghost use Rattle.scene_script.specs.Reads.{Reads};
 ghost use Rattle.scene_script.specs.ResourceRows as spec;
 
+use crate::bounds::Bounds;
 use crate::fault::{SceneFault, TableKind, Which};
 use crate::fields::{known_keys, name, text};
 use crate::limits::MAX_RESOURCES;
@@ -19,6 +20,13 @@ use scene_model::{MAX_FILE_NAME_BYTES, Resource};
 use std::alloc::Global;
 use std::marker::Model;
 use toml::Table;
+
+/// The bytes of the name of a sound file.
+const FILE_NAME: Bounds = Bounds {
+    which: Which::FileName,
+    least: 1,
+    most: MAX_FILE_NAME_BYTES as u64,
+};
 
 /// The resources of a script.
 #[tactic(auto, unfolding(crate::specs::ResourceRows::resources))]
@@ -108,21 +116,7 @@ fn file<'a>(row: &'a Table, place: Place) -> Result<&'a str, SceneFault>
     ensures is_file_name { IfOk result (λ file. IsTrue (is_file_name file.now)) }
 {
     let text = text(row, place, "file")?;
-    let found = text.len() as i64;
-    if text.len() > MAX_FILE_NAME_BYTES {
-        return Err(SceneFault::Limit {
-            which: Which::FileName,
-            found,
-            limit: MAX_FILE_NAME_BYTES as i64,
-        });
-    }
-    if text.is_empty() {
-        return Err(SceneFault::Limit {
-            which: Which::FileName,
-            found,
-            limit: 1,
-        });
-    }
+    FILE_NAME.checked(text.len() as i64)?;
     Ok(text)
 }
 

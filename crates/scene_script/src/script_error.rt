@@ -5,7 +5,7 @@ use std::alloc::{AllocError, AllocFailed};
 /// Why a script couldn't be read.
 #[derive(Debug, Clone, Copy, PartialEq, Eq)]
 pub enum ScriptError {
-    /// The text is no script of a scene. It is the first fault.
+    /// The first fault of the text, in the order of [`crate::read_scene`].
     Fault(SceneFault),
     /// There was no memory.
     OutOfMemory,

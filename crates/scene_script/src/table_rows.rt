@@ -4,6 +4,7 @@ ghost use Rattle.scene_script.specs.Checked.{GivesAs};
 ghost use Rattle.scene_script.specs.Reads.{ReadsTable};
 ghost use Rattle.scene_script.specs.TableRows as spec;
 
+use crate::bounds::Bounds;
 use crate::fault::{SceneFault, TableKind, Which};
 use crate::fields::member;
 use crate::place::Place;
@@ -35,9 +36,12 @@ pub(crate) fn table_rows<'a>(
                     row: 0,
                 },
             )?;
-            if rows.len() > most as usize {
-                return Err(ScriptError::Fault(SceneFault::too_many(which, rows.len(), most)));
-            }
+            let bounds = Bounds {
+                which,
+                least: 0,
+                most: u64::from(most),
+            };
+            bounds.checked(rows.len() as i64)?;
             Ok(rows)
         }
         None => Ok(Vec::new(alloc)),
@@ -51,7 +55,7 @@ fn tables(alloc: Global, value: &Value, place: Place) -> Result<Vec<&Table>, Scr
 {
     match value.as_array() {
         Some(items) => all_tables(alloc, items.as_slice(), place),
-        None => Err(ScriptError::Fault(place.wrong_kind())),
+        None => Err(place.wrong_kind().into()),
     }
 }
 
@@ -71,8 +75,5 @@ fn all_tables(alloc: Global, items: &[Value], place: Place) -> Result<Vec<&Table
 fn table_of(value: &Value, place: Place) -> Result<&Table, SceneFault>
     ensures { ReadsTable result (spec.table_of place (view value.now)) }
 {
-    match value.as_table() {
-        Some(table) => Ok(table),
-        None => Err(place.wrong_kind()),
-    }
+    value.as_table().ok_or(place.wrong_kind())
 }

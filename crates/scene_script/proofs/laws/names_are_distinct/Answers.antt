@@ -1,4 +1,4 @@
-use Rattle.scene_script.proofs.Kept.{resource_names_distinct, node_names_distinct}
+use Rattle.scene_script.proofs.SceneLaws.{resource_names_distinct, node_names_distinct}
 use Rattle.scene_script.proofs.laws.names_are_distinct.Goals as goal
 
 pub returns-clause-resources : goal.returns-clause-resources

@@ -1,5 +1,5 @@
 use Rattle.std.proofs.Common.{◌≡◌, drop, ◌++◌, map}
-use Rattle.scene_script.specs.Making.{placed_row, all_edits}
+use Rattle.scene_script.specs.Wiring.{placed_row, all_edits}
 use Rattle.scene_script.proofs.placed_edit.all_edits.Given as goal
 
 abbrev pub invariant-loop-edit : goal.invariant-loop-edit

@@ -3,7 +3,7 @@ use Rattle.std.specs.Prelude.{fold}
 use Rattle.scene_model.specs.Opening.{unwired}
 use Rattle.scene_model.specs.Plans.{after}
 use Rattle.scene_script.specs.declared.placed_edit.PlacedEdit.{PlacedEdit}
-use Rattle.scene_script.specs.Making.{all_done}
+use Rattle.scene_script.specs.Wiring.{all_done}
 use Rattle.scene_script.proofs.placed_edit.make_all.Given as goal
 
 abbrev pub invariant-loop-edit : goal.invariant-loop-edit

@@ -1,5 +1,5 @@
 use Rattle.std.proofs.Common.{◌≡◌, ◌+◌, drop, ◌++◌}
-use Rattle.scene_script.specs.Making.{bus_edits}
+use Rattle.scene_script.specs.Wiring.{bus_edits}
 use Rattle.scene_script.proofs.placed_edit.push_buses.Given as goal
 
 abbrev pub invariant-loop-number : goal.invariant-loop-number

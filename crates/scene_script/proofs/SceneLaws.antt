@@ -32,8 +32,8 @@ use Rattle.scene_script.specs.EditRows as edit_rows
 use Rattle.scene_script.specs.Fields.{place, known_keys, name_at}
 use Rattle.scene_script.specs.Headers as headers
 use Rattle.scene_script.specs.Headers.{Header}
-use Rattle.scene_script.specs.Kept.{AreDistinct, AreDone}
-use Rattle.scene_script.specs.Making.{done, all_done, all_edits, wired}
+use Rattle.scene_script.specs.SceneLaws.{AreDistinct, AreDone}
+use Rattle.scene_script.specs.Wiring.{done, all_done, all_edits, wired}
 use Rattle.scene_script.specs.Names.{endpoint}
 use Rattle.scene_script.specs.NodeRows as node_rows
 use Rattle.scene_script.specs.ResourceRows as resource_rows
@@ -41,12 +41,12 @@ use Rattle.scene_script.specs.TableRows.{rows_at}
 use Rattle.scene_script.specs.Script.{document, scene_of, scene}
 
 -- a step that gave something was read
-record Went {A B : Type 0} (r : Result A SceneFault) (next : A → Result B SceneFault) (y : B) : Type 0 where
-  value : A
-  is : r ≡ Ok value
-  rest : next value ≡ Ok y
+pub record Went {A B : Type 0} (r : Result A SceneFault) (next : A → Result B SceneFault) (y : B) : Type 0 where
+  pub value : A
+  pub is : r ≡ Ok value
+  pub rest : next value ≡ Ok y
 
-went : {A B : Type 0} (r : Result A SceneFault) (next : A → Result B SceneFault) (y : B) → (r >>= next) ≡ Ok y → Went r next y
+pub went : {A B : Type 0} (r : Result A SceneFault) (next : A → Result B SceneFault) (y : B) → (r >>= next) ≡ Ok y → Went r next y
 went (Ok x) next y e = record { value = x; is = refl; rest = e }
 went (Err f) next y e = absurd (cc)
 
@@ -60,11 +60,11 @@ each_keeps one P step start (x ∷ rows) all e p =
     let w = went (one start x) (λ y. each one (start ++ y ∷ []) rows) all e in
     each_keeps one P step (start ++ w.value ∷ []) rows all w.rest (step start x w.value w.is p)
 
-or_first : (a b : Bool) → (a || b) ≡ false → a ≡ false
+pub or_first : (a b : Bool) → (a || b) ≡ false → a ≡ false
 or_first true b e = e
 or_first false b e = refl
 
-or_second : (a b : Bool) → (a || b) ≡ false → b ≡ false
+pub or_second : (a b : Bool) → (a || b) ≡ false → b ≡ false
 or_second true b e = absurd (cc)
 or_second false b e = e
 

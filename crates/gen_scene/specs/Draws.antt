@@ -1,4 +1,4 @@
--- The numbers of the generator: a linear congruence modulo 2^32, whose high halves are drawn.
+-- The draws of a linear congruential generator modulo 2^32: the high 16 bits of each state.
 use Rattle.std.specs.Prelude.{◌≡◌, ℕ, zero, suc, ◌+◌, ◌*◌, ◌/◌, ◌%◌, ◌^◌, refl}
 use Rattle.std.proofs.Common.{ap, arith}
 

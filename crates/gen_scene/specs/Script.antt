@@ -44,14 +44,14 @@ resource_lines prefix i =
 unfoldable pub group_lines : ℕ → List ℕ
 group_lines j = line (codes "[[node]]") ++ text_line (codes "kind") (codes "group") ++ text_line (codes "name") (numbered (codes "g") j)
 
-unfoldable pub player_head : ℕ → List ℕ
-player_head k = line (codes "[[node]]") ++ text_line (codes "kind") (codes "sound") ++ text_line (codes "name") (numbered (codes "s") k)
+unfoldable pub player_name_lines : ℕ → List ℕ
+player_name_lines k = line (codes "[[node]]") ++ text_line (codes "kind") (codes "sound") ++ text_line (codes "name") (numbered (codes "s") k)
 
-unfoldable pub player_tail : ℕ → List ℕ
-player_tail k = text_line (codes "resource") (numbered (codes "r") (k % sounds)) ++ line (codes "loop = true")
+unfoldable pub player_source_lines : ℕ → List ℕ
+player_source_lines k = text_line (codes "resource") (numbered (codes "r") (k % sounds)) ++ line (codes "loop = true")
 
 unfoldable pub player_lines : ℕ → List ℕ
-player_lines k = player_head k ++ player_tail k
+player_lines k = player_name_lines k ++ player_source_lines k
 
 unfoldable pub group_bus_lines : ℕ → List ℕ
 group_bus_lines j = line (codes "[[bus]]") ++ text_line (codes "node") (numbered (codes "g") j) ++ text_line (codes "to") (codes "endpoint")

@@ -1,10 +1,10 @@
-ghost use Rattle.std.specs.Prelude.{◌≡◌, ◌<◌, ◌^◌};
+ghost use Rattle.std.specs.Prelude.{◌≡◌};
 ghost use Rattle.gen_scene.specs.Draws as spec;
 
 use std::marker::Model;
 
-/// The numbers of the generator, from 0 to 65535, one after the other: a linear congruence modulo
-/// 2^32 of which the high half is drawn.
+/// The draws of the generator, one after the other: a linear congruential generator modulo 2^32
+/// (multiplier 1664525, increment 1013904223) of which the high 16 bits are drawn.
 #[derive(Debug, Drop)]
 pub struct Draws {
     state: u32,
@@ -26,16 +26,15 @@ impl Draws {
         Draws { state: number }
     }
 
-    /// The next number, 0 to 65535.
-    pub fn next(&mut self) -> u32
+    /// Draws the next number.
+    pub fn draw(&mut self) -> u16
         ensures state { self.new ≡ spec.stepped self.old }
         ensures value { result ≡ spec.drawn self.new }
-        ensures range { result < 2 ^ 16 }
     {
         self.state = self
             .state
             .wrapping_mul(1_664_525)
             .wrapping_add(1_013_904_223);
-        self.state >> 16
+        (self.state >> 16) as u16
     }
 }

@@ -1,6 +1,7 @@
 //! A stated large scene, made from a number: eight sound files of noise and the script of a scene
-//! that plays them through four groups, with edits all along. Each of its bytes is a definition of
-//! the number, so that everybody who measures an engine by it measures the same work.
+//! that plays them through four groups, with edits all along. The bytes of the sounds are a
+//! definition of the number, those of the script of the number and the prefix of the names, so that
+//! everybody who measures an engine by them measures the same work.
 //!
 //! [`Draws`] are the numbers of the generator. The sounds are PCM of 16 bits, 220500 frames each:
 //! sound `i` is mono where `i` is even and stereo where it is odd, at 44100 Hz for the first four

@@ -5,8 +5,8 @@ ghost use Rattle.mix_fixed.specs.Sound.{Is24};
 
 use crate::draws::Draws;
 
-/// Fills `out` with samples of noise in 24 bits, each of 16 bits with eight more low bits, which are
-/// 0: one draw each, in order.
+/// Fills `out` with samples of noise in 24 bits, interleaved where the sound is stereo: one draw
+/// each, in order, less 32768, and eight more low bits, which are 0.
 pub fn noise(draws: &mut Draws, out: &mut [i32])
     ensures value { out.new ≡ spec.noise draws.old 0 (length out.old) }
     ensures draws { draws.new ≡ state draws.old (length out.old) }
@@ -23,5 +23,5 @@ fn noise_sample(draws: &mut Draws) -> i32
     ensures draws { draws.new ≡ stepped draws.old }
     ensures range { Is24 result }
 {
-    (draws.next() as i32 - 32_768) * 256
+    (i32::from(draws.draw()) - 32_768) * 256
 }

@@ -17,11 +17,16 @@ use wave_write::{header, pack};
 /// The samples that are appended at once: a 45th part of the samples of a mono sound.
 const BLOCK_SAMPLES: usize = 4900;
 
-/// The blocks of a channel of a sound.
+/// How many blocks a mono sound has; a stereo one has twice as many.
 const BLOCKS: u32 = 45;
 
-/// Writes sound `i`, from 0 to 7, to `PREFIX-I.wav`, in pieces. `draws` stands behind the draws of the
-/// sounds before it, and then behind its own.
+/// Writes sound `i`, from 0 to 7, to `PREFIX-I.wav`, in pieces. Before the call the sounds before it
+/// have taken their draws from `draws`, and after it this one has too.
+///
+/// # Errors
+///
+/// After [`Put::Failed`] and [`Put::OutOfMemory`] the file is as before or has a first part of its
+/// bytes, and no clause says where `draws` is.
 pub fn write_sound<D: Depot>(
     alloc: Global,
     depot: &mut D,
@@ -58,6 +63,10 @@ fn sound_name(alloc: Global, prefix: &str, i: u32) -> Result<String, OutOfMemory
 }
 
 /// The name of the script, `PREFIX.toml`.
+///
+/// # Errors
+///
+/// [`OutOfMemory`] where there is no memory.
 pub fn script_name(alloc: Global, prefix: &str) -> Result<String, OutOfMemory>
     ensures { IfOk result (λ name. string_bytes name ≡ script_name_of prefix.now) }
 {

@@ -8,7 +8,7 @@ use Rattle.scene_script.specs.declared.fault.SceneFault.TheVariants.{NotToml, Ve
 use Rattle.scene_script.specs.declared.fault.TableKind.{TableKind}
 use Rattle.scene_script.specs.declared.fault.TableKind.TheVariants as tables
 use Rattle.scene_script.specs.declared.fault.Which.{Which}
-use Rattle.scene_script.specs.declared.fault.Which.TheVariants as limits
+use Rattle.scene_script.specs.declared.fault.Which.TheVariants as which
 use Rattle.wave_read.specs.declared.wave_fault.WaveFault.{WaveFault}
 use Rattle.wave_read.specs.declared.wave_fault.WaveFault.TheVariants.{NotRiff, NotWave, Ds64Missing, ChunkPastEnd, NoFmt, FmtShort, Unsupported, Channels, Rate, Width, ImaAlign, StepIndex, NoData}
 
@@ -39,25 +39,25 @@ table_text tables.Edit = codes "edit"
 
 -- the names of numbers that have a limit
 abbrev pub which_text : Which → List ℕ
-which_text limits.Rate = codes "Rate"
-which_text limits.Channels = codes "Channels"
-which_text limits.Width = codes "Width"
-which_text limits.Length = codes "Length"
-which_text limits.Resources = codes "Resources"
-which_text limits.FileName = codes "FileName"
-which_text limits.Nodes = codes "Nodes"
-which_text limits.Outputs = codes "Outputs"
-which_text limits.From = codes "From"
-which_text limits.Until = codes "Until"
-which_text limits.Buses = codes "Buses"
-which_text limits.BusRows = codes "BusRows"
-which_text limits.Edits = codes "Edits"
-which_text limits.Out = codes "Out"
-which_text limits.Gain = codes "Gain"
-which_text limits.At = codes "At"
-which_text limits.Value = codes "Value"
-which_text limits.Editor = codes "Editor"
-which_text limits.LiveLength = codes "LiveLength"
+which_text which.Rate = codes "Rate"
+which_text which.Channels = codes "Channels"
+which_text which.Width = codes "Width"
+which_text which.Length = codes "Length"
+which_text which.Resources = codes "Resources"
+which_text which.FileName = codes "FileName"
+which_text which.Nodes = codes "Nodes"
+which_text which.Outputs = codes "Outputs"
+which_text which.From = codes "From"
+which_text which.Until = codes "Until"
+which_text which.Buses = codes "Buses"
+which_text which.BusRows = codes "BusRows"
+which_text which.Edits = codes "Edits"
+which_text which.Out = codes "Out"
+which_text which.Gain = codes "Gain"
+which_text which.At = codes "At"
+which_text which.Value = codes "Value"
+which_text which.Editor = codes "Editor"
+which_text which.LiveLength = codes "LiveLength"
 
 -- a reply's name and then its number, if it has one
 abbrev pub reply_text : Reply → List ℕ
@@ -70,10 +70,11 @@ reply_text NotAttached = codes "NotAttached"
 reply_text GainTooLarge = codes "GainTooLarge"
 reply_text NotSound = codes "NotSound"
 
--- the name of a fault and then its fields, each after a space
+-- a fault's name, its table and its row, each after a space
 abbrev pub in_row : List ℕ → TableKind → ℕ → List ℕ
 in_row name table row = name ++ codes " " ++ table_text table ++ codes " " ++ decimal row
 
+-- the name of a fault and then its fields, each after a space
 abbrev pub scene_fault_text : SceneFault → List ℕ
 scene_fault_text NotToml = codes "NotToml"
 scene_fault_text (Version n) = codes "Version " ++ signed_decimal n

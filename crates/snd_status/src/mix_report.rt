@@ -1,6 +1,6 @@
 use std::fmt;
 
-/// What is told of a scene that was rendered.
+/// The line of a scene that was rendered.
 #[derive(Clone, Copy, Debug, PartialEq, Eq)]
 pub struct MixReport {
     /// The frames of the scene.
@@ -15,7 +15,8 @@ pub struct MixReport {
     pub bytes: u64,
     /// The greatest magnitude of the samples in 24 bits, before they are packed.
     pub peak: u32,
-    /// The sum of the bytes of the packed samples, modulo 4294967296.
+    /// The sum of the bytes of the packed samples, without the header and the pad byte, modulo
+    /// 4294967296.
     pub sum: u32,
 }
 

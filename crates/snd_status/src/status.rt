@@ -14,17 +14,18 @@ pub enum Status {
     Done,
     /// There was no memory.
     OutOfMemory,
-    /// The word with this number, counted from 0, doesn't fit.
+    /// The word with this number, counted from 0 after the program's name, doesn't fit, is missing, or
+    /// is one too many.
     Usage { word: u32 },
     /// The store of files failed.
     DepotFault,
     /// There is no file of this name.
     Absent { name: Text },
-    /// The file of this name, or with it the sum of all sound files, has more bytes than this limit.
+    /// The file of this name, or with it the sum of all sound files, has more than `limit` bytes.
     TooLong { name: Text, limit: u64 },
     /// The script is refused.
     Script(SceneFault),
-    /// The sound file of the resource of this number, counted from 0, is refused.
+    /// The sound file of the resource of this number, counted from 0, is refused. `info` says 0.
     File { resource: u32, fault: WaveFault },
     /// The text that the command prints couldn't be written. All files are.
     TextFault,

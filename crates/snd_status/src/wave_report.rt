@@ -4,12 +4,12 @@ ghost use Rattle.snd_status.specs.Texts.{kind_text};
 use std::fmt;
 use wave_read::{Kind, Wave};
 
-/// What is told of a WAVE file.
+/// The line of a WAVE file.
 #[derive(Clone, Copy, Debug, PartialEq, Eq)]
 pub struct WaveReport {
-    /// What the file says of its sound.
+    /// The format of the sound, and its frames.
     pub wave: Wave,
-    /// The pages of 8192 frames in which it is decoded.
+    /// The number of its frames divided by 8192, the frames of a page, rounded up.
     pub pages: u64,
 }
 

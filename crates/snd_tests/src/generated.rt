@@ -76,7 +76,7 @@ fn its_mix_is_the_same_each_time(rt: HostRuntime) -> Result<(), Fail> {
         ends(
             alloc,
             &mut depot,
-            &["gen", "0000000001", "a/g"],
+            &["gen", "1", "a/g"],
             0,
             "files 9\n"
         )?

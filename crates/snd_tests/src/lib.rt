@@ -13,10 +13,14 @@ mod limits;
 #[cfg(test)]
 mod mixes;
 #[cfg(test)]
+mod plain_mixes;
+#[cfg(test)]
 mod programs;
 #[cfg(test)]
 mod real_edge;
 #[cfg(test)]
 mod scenes;
+#[cfg(test)]
+mod script_faults;
 #[cfg(test)]
 mod sounds;

@@ -31,7 +31,8 @@ by-fit (Err e) size value some known =
 -- a numeral is read to its number, where that fits
 pub parsed : {E : Type 0} (word : List ℕ) (r : Result ℕ E) → is_numeral word ≡ true → ParsesUnsigned 32 10 word r → result_ok r ≡ number word
 parsed word r numeral reads =
-    let some = both (nat_le 1 (length word)) _ (both (nat_le 1 (length word) && nat_le (length word) 10) _ numeral).0 in
-    let digits = sym (same-test word) ∙ (both _ (has_only_digits word) numeral).1 in
+    let plain = both (nat_le 1 (length word) && nat_le (length word) 10 && has_only_digits word) _ numeral in
+    let some = both (nat_le 1 (length word)) _ (both (nat_le 1 (length word) && nat_le (length word) 10) _ plain.0).0 in
+    let digits = sym (same-test word) ∙ (both _ (has_only_digits word) plain.0).1 in
     rw numeral (by-fit r (length word) (digits_value 10 word) (leb-true 1 (length word) some.0)
     (parse_digits (numerals_by_value _ tells_all_ascii_digits) 32 word r reads digits))

@@ -1,5 +1,5 @@
 -- Files that are set one after the other.
-use Rattle.std.proofs.Common.{◌≡◌, ◌⊎◌, ◌<◌, ◌≤◌, ◌+◌, ◌-◌, ℕ, zero, suc, List, [], ◌∷◌, ◌++◌, map, Some, None, refl, ◌∙◌, ap, sym, subst, inl, inr, arith}
+use Rattle.std.proofs.Common.{◌≡◌, ◌⊎◌, ◌<◌, ◌≤◌, ◌+◌, ◌-◌, ℕ, suc, List, [], ◌∷◌, ◌++◌, map, Some, None, refl, ◌∙◌, ap, sym, subst, inl, inr, arith}
 use Rattle.std.specs.Option.{option_map}
 use Rattle.std.specs.List.{range_with_len}
 use Rattle.std.proofs.lemmas.List.FromFn.{map-range_with_len_more}
@@ -11,33 +11,33 @@ use Rattle.snd_io.specs.Runs.{SetsFile}
 use Rattle.gen_scene.specs.Draws.{state, state-resumed}
 use Rattle.gen_scene.specs.Sounds.{sounds, first_draw, sound_samples, sound_name, sound_file, sound_from, sound_from-is}
 use Rattle.snd_tools.specs.Meets.{put_all, IsWrittenInPart, IsSetInPart, SetsAll}
-use Rattle.snd_tools.specs.Outcome.{Output, sound_output, sound_outputs}
+use Rattle.snd_tools.specs.Outcome.{OutputFile, sound_output, sound_outputs}
 
-pub part-same : (outputs : List Output) (files : Files) → IsWrittenInPart outputs files files
+pub part-same : (outputs : List OutputFile) (files : Files) → IsWrittenInPart outputs files files
 part-same [] files = refl
 part-same (output ∷ outputs) files = inl refl
 
 -- what is set in part of the first outputs is so of all
-part-before : (first second : List Output) (before after : Files) → IsWrittenInPart first before after → IsWrittenInPart (first ++ second) before after
+part-before : (first second : List OutputFile) (before after : Files) → IsWrittenInPart first before after → IsWrittenInPart (first ++ second) before after
 part-before [] second before after same = subst (λ files. IsWrittenInPart second before files) (sym same) (part-same second before)
 part-before (output ∷ first) second before after (inl same) = inl same
 part-before (output ∷ first) second before after (inr (inl part)) = inr (inl part)
 part-before (output ∷ first) second before after (inr (inr rest)) = inr (inr (part-before first second (put_file output.name output.bytes before) after rest))
 
 -- and so is what is set in part after the first ones are whole
-part-after : (first second : List Output) (before after : Files) → IsWrittenInPart second (put_all first before) after → IsWrittenInPart (first ++ second) before after
+part-after : (first second : List OutputFile) (before after : Files) → IsWrittenInPart second (put_all first before) after → IsWrittenInPart (first ++ second) before after
 part-after [] second before after rest = rest
 part-after (output ∷ first) second before after rest = inr (inr (part-after first second (put_file output.name output.bytes before) after rest))
 
-put_all-join : (first second : List Output) (files : Files) → put_all second (put_all first files) ≡ put_all (first ++ second) files
+put_all-join : (first second : List OutputFile) (files : Files) → put_all second (put_all first files) ≡ put_all (first ++ second) files
 put_all-join [] second files = refl
 put_all-join (output ∷ first) second files = put_all-join first second (put_file output.name output.bytes files)
 
-joined : (first second : List Output) (told : Told) → option_map (put_all second) (option_map (put_all first) told) ≡ option_map (put_all (first ++ second)) told
+joined : (first second : List OutputFile) (told : Told) → option_map (put_all second) (option_map (put_all first) told) ≡ option_map (put_all (first ++ second)) told
 joined first second None = refl
 joined first second (Some files) = ap Some (put_all-join first second files)
 
-module _ (first second : List Output) (a b c : Told) where
+module _ (first second : List OutputFile) (a b c : Told) where
   pub in-part-then : b ≡ option_map (put_all first) a → IsSetInPart second b c → IsSetInPart (first ++ second) a c
   in-part-then one other = λ before told.
       let left = other (put_all first before) (one ∙ ap (option_map (put_all first)) told) in
@@ -53,7 +53,7 @@ module _ (first second : List Output) (a b c : Told) where
   pub in-part-stopped : IsSetInPart first a c → IsSetInPart (first ++ second) a c
   in-part-stopped set = λ before told. let left = set before told in (left.0, left.1, part-before first second before left.0 left.2)
 
-pub none-set : (outputs : List Output) (a : Told) → IsSetInPart outputs a a
+pub none-set : (outputs : List OutputFile) (a : Told) → IsSetInPart outputs a a
 none-set outputs a = λ before told. (before, told, part-same outputs before)
 
 module _ (name bytes : List ℕ) where
@@ -80,7 +80,7 @@ unfolding sound_outputs
 outputs-more number prefix i =
     map-range_with_len_more (sound_output number prefix) 0 i i (omega arith)
 
-outputs-rest : ℕ → List ℕ → ℕ → ℕ → List Output
+outputs-rest : ℕ → List ℕ → ℕ → ℕ → List OutputFile
 outputs-rest number prefix i count = map (sound_output number prefix) (range_with_len i (count - i))
 
 outputs-whole : (number : ℕ) (prefix : List ℕ) (i count : ℕ) → i ≤ count → sound_outputs number prefix count ≡ sound_outputs number prefix i ++ outputs-rest number prefix i count

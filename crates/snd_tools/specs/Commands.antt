@@ -1,5 +1,5 @@
 -- The words after the program's name, as a command. Words are counted from 0.
-use Rattle.std.specs.Prelude.{ℕ, ◌^◌, Bool, ◌&&◌, ◌||◌, ◌==◌, nat_le, nat_lt, if◌then◌else◌, List, [], ◌∷◌, length, codes, Option, Some, None, Result, Ok, Err}
+use Rattle.std.specs.Prelude.{ℕ, ◌^◌, Bool, false, not, ◌&&◌, ◌||◌, ◌==◌, nat_le, nat_lt, if◌then◌else◌, List, [], ◌∷◌, length, codes, Option, Some, None, Result, Ok, Err}
 use Rattle.std.specs.List.{list_all}
 use Rattle.std.specs.Char.{is_ascii_alphanumeric, is_ascii_digit}
 use Rattle.std.specs.Str.{bytes_eq}
@@ -23,11 +23,17 @@ is_prefix word = nat_le 1 (length word) && nat_le (length word) 64 && has_only_p
 abbrev pub has_only_digits : List ℕ → Bool
 has_only_digits word = list_all is_ascii_digit word
 
--- 1 to 10 digits
-abbrev pub is_numeral : List ℕ → Bool
-is_numeral word = nat_le 1 (length word) && nat_le (length word) 10 && has_only_digits word
+-- a 0 before other digits
+abbrev pub has_leading_zero : List ℕ → Bool
+has_leading_zero (first ∷ second ∷ rest) = first == 48
+has_leading_zero _ = false
 
--- the number of a word: 1 to 10 digits, and at most 4294967295
+-- 1 to 10 digits, with no leading zero
+abbrev pub is_numeral : List ℕ → Bool
+is_numeral word =
+    nat_le 1 (length word) && nat_le (length word) 10 && has_only_digits word && not (has_leading_zero word)
+
+-- the number of such a word, which is at most 4294967295
 abbrev pub number : List ℕ → Option ℕ
 number word = if is_numeral word && nat_lt (digits_value 10 word) (2 ^ 32) then Some (digits_value 10 word) else None
 

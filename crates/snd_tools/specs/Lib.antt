@@ -4,4 +4,4 @@ pub mod Meets
 pub mod Outcome
 pub mod Reading
 pub mod Rendered
-pub mod Telling
+pub mod Printing

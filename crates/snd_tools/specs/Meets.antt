@@ -9,15 +9,15 @@ use Rattle.snd_io.specs.declared.answers.Put.TheVariants.{Done as PutDone, Faile
 use Rattle.snd_io.specs.Files.{Files, Told, put_file}
 use Rattle.snd_status.specs.declared.status.Status.{Status}
 use Rattle.snd_status.specs.declared.status.Status.TheVariants.{Done, OutOfMemory, Usage, DepotFault, Absent, TooLong, Script, File, TextFault}
-use Rattle.snd_tools.specs.Outcome.{Output, Outcome, Report, status_line}
+use Rattle.snd_tools.specs.Outcome.{OutputFile, Outcome, Report, status_line}
 
 -- the files with each output set, and every other name as before
-abbrev pub put_all : List Output → Files → Files
+abbrev pub put_all : List OutputFile → Files → Files
 put_all [] files = files
 put_all (output ∷ outputs) files = put_all outputs (put_file output.name output.bytes files)
 
 -- the files are as before, or a first part of the outputs is set whole, and the next one may be set to a prefix of its bytes
-abbrev pub IsWrittenInPart : List Output → Files → Files → Type 0
+abbrev pub IsWrittenInPart : List OutputFile → Files → Files → Type 0
 IsWrittenInPart [] before after = after ≡ before
 IsWrittenInPart (output ∷ outputs) before after =
     (after ≡ before)
@@ -25,10 +25,10 @@ IsWrittenInPart (output ∷ outputs) before after =
     ⊎ IsWrittenInPart outputs (put_file output.name output.bytes before) after)
 
 -- each output is set; or, where the files are told, the outputs are set in part
-abbrev pub IsSetInPart : List Output → Told → Told → Type 0
+abbrev pub IsSetInPart : List OutputFile → Told → Told → Type 0
 IsSetInPart outputs old new = (before : Files) → old ≡ Some before → (after : Files) × (new ≡ Some after) × IsWrittenInPart outputs before after
 
-abbrev pub SetsAll : Put → List Output → Told → Told → Type 0
+abbrev pub SetsAll : Put → List OutputFile → Told → Told → Type 0
 SetsAll PutDone outputs old new = new ≡ option_map (put_all outputs) old
 SetsAll PutFailed outputs old new = IsSetInPart outputs old new
 SetsAll PutOutOfMemory outputs old new = IsSetInPart outputs old new
@@ -43,50 +43,50 @@ pub record IsWritten (outcome : Outcome) (before after : Files) (report : Report
   pub reported : outcome ≡ Ok report
   pub set : after ≡ put_all report.outputs before
 
--- What the work on the files came to: all was written, and the line is to be told, or it stopped with a status. `rose` says
--- that the depot's count of faults rose in the call.
+-- What the work on the files came to: all was written, and the line is to be told, or it stopped with a status. `depot_rose` says
+-- that the depot's count of faults depot_rose in the call.
 abbrev pub Stops : Outcome → Files → Files → Type 0 → Status → Type 0
-Stops outcome before after rose Done = ⊥
-Stops outcome before after rose OutOfMemory = IsLeft outcome before after
-Stops outcome before after rose (Usage word) = (outcome ≡ Err (Usage word)) × (after ≡ before)
-Stops outcome before after rose DepotFault = rose × IsLeft outcome before after
-Stops outcome before after rose (Absent name) = (outcome ≡ Err (Absent name)) × (after ≡ before)
-Stops outcome before after rose (TooLong name limit) = (outcome ≡ Err (TooLong name limit)) × (after ≡ before)
-Stops outcome before after rose (Script fault) = (outcome ≡ Err (Script fault)) × (after ≡ before)
-Stops outcome before after rose (File resource fault) = (outcome ≡ Err (File resource fault)) × (after ≡ before)
-Stops outcome before after rose TextFault = ⊥
+Stops outcome before after depot_rose Done = ⊥
+Stops outcome before after depot_rose OutOfMemory = IsLeft outcome before after
+Stops outcome before after depot_rose (Usage word) = (outcome ≡ Err (Usage word)) × (after ≡ before)
+Stops outcome before after depot_rose DepotFault = depot_rose × IsLeft outcome before after
+Stops outcome before after depot_rose (Absent name) = (outcome ≡ Err (Absent name)) × (after ≡ before)
+Stops outcome before after depot_rose (TooLong name limit) = (outcome ≡ Err (TooLong name limit)) × (after ≡ before)
+Stops outcome before after depot_rose (Script fault) = (outcome ≡ Err (Script fault)) × (after ≡ before)
+Stops outcome before after depot_rose (File resource fault) = (outcome ≡ Err (File resource fault)) × (after ≡ before)
+Stops outcome before after depot_rose TextFault = ⊥
 
 abbrev pub Works : Outcome → Files → Files → Type 0 → Result (String Global) Status → Type 0
-Works outcome before after rose (Ok text) = (report : Report) × IsWritten outcome before after report × (string_bytes text ≡ report.line)
-Works outcome before after rose (Err status) = Stops outcome before after rose status
+Works outcome before after depot_rose (Ok text) = (report : Report) × IsWritten outcome before after report × (string_bytes text ≡ report.line)
+Works outcome before after depot_rose (Err status) = Stops outcome before after depot_rose status
 
--- the line was added, or a prefix of it where the sink's count of faults rose
-abbrev pub IsTold : Type 0 → List ℕ → List ℕ → Type 0
-IsTold cut line added = (added ≡ line) ⊎ (cut × IsPrefix added line)
+-- the line was added, or a prefix of it where the sink's count of faults depot_rose
+abbrev pub IsPrinted : Type 0 → List ℕ → List ℕ → Type 0
+IsPrinted text_rose line added = (added ≡ line) ⊎ (text_rose × IsPrefix added line)
 
 -- A status of a line, which is told.
-pub record TellsStatus (outcome : Outcome) (before after : Files) (added : List ℕ) (rose cut : Type 0) (status : Status) : Type 0 where
-  pub stops : Stops outcome before after rose status
-  pub told : IsTold cut (status_line status) added
+pub record PrintsStatus (outcome : Outcome) (before after : Files) (added : List ℕ) (depot_rose text_rose : Type 0) (status : Status) : Type 0 where
+  pub stops : Stops outcome before after depot_rose status
+  pub printed : IsPrinted text_rose (status_line status) added
 
 -- where there was no memory, a prefix of one line may have been added: of that of this status, of the refusal, of the depot's
 -- fault, or of the report where every output is set whole
-abbrev pub MayTell : Outcome → Files → Files → List ℕ → Type 0 → Type 0
-MayTell outcome before after added rose =
+abbrev pub MayPrint : Outcome → Files → Files → List ℕ → Type 0 → Type 0
+MayPrint outcome before after added depot_rose =
     IsPrefix added (status_line OutOfMemory)
     ⊎ (((refusal : Status) × (outcome ≡ Err refusal) × IsPrefix added (status_line refusal))
-    ⊎ ((rose × IsPrefix added (status_line DepotFault))
+    ⊎ ((depot_rose × IsPrefix added (status_line DepotFault))
     ⊎ ((report : Report) × IsWritten outcome before after report × IsPrefix added report.line)))
 
--- `rose` says that the depot's count of faults rose in the call, `cut` that the text sink's did
+-- `depot_rose` says that the depot's count of faults depot_rose in the call, `text_rose` that the text sink's did
 abbrev pub Meets : Outcome → Files → Files → List ℕ → Type 0 → Type 0 → Status → Type 0
-Meets outcome before after added rose cut Done = (report : Report) × IsWritten outcome before after report × (added ≡ report.line)
-Meets outcome before after added rose cut TextFault =
-    cut × ((report : Report) × IsWritten outcome before after report × IsPrefix added report.line)
-Meets outcome before after added rose cut OutOfMemory = IsLeft outcome before after × MayTell outcome before after added rose
-Meets outcome before after added rose cut (Usage word) = TellsStatus outcome before after added rose cut (Usage word)
-Meets outcome before after added rose cut DepotFault = TellsStatus outcome before after added rose cut DepotFault
-Meets outcome before after added rose cut (Absent name) = TellsStatus outcome before after added rose cut (Absent name)
-Meets outcome before after added rose cut (TooLong name limit) = TellsStatus outcome before after added rose cut (TooLong name limit)
-Meets outcome before after added rose cut (Script fault) = TellsStatus outcome before after added rose cut (Script fault)
-Meets outcome before after added rose cut (File resource fault) = TellsStatus outcome before after added rose cut (File resource fault)
+Meets outcome before after added depot_rose text_rose Done = (report : Report) × IsWritten outcome before after report × (added ≡ report.line)
+Meets outcome before after added depot_rose text_rose TextFault =
+    text_rose × ((report : Report) × IsWritten outcome before after report × IsPrefix added report.line)
+Meets outcome before after added depot_rose text_rose OutOfMemory = IsLeft outcome before after × MayPrint outcome before after added depot_rose
+Meets outcome before after added depot_rose text_rose (Usage word) = PrintsStatus outcome before after added depot_rose text_rose (Usage word)
+Meets outcome before after added depot_rose text_rose DepotFault = PrintsStatus outcome before after added depot_rose text_rose DepotFault
+Meets outcome before after added depot_rose text_rose (Absent name) = PrintsStatus outcome before after added depot_rose text_rose (Absent name)
+Meets outcome before after added depot_rose text_rose (TooLong name limit) = PrintsStatus outcome before after added depot_rose text_rose (TooLong name limit)
+Meets outcome before after added depot_rose text_rose (Script fault) = PrintsStatus outcome before after added depot_rose text_rose (Script fault)
+Meets outcome before after added depot_rose text_rose (File resource fault) = PrintsStatus outcome before after added depot_rose text_rose (File resource fault)

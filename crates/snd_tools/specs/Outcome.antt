@@ -20,13 +20,13 @@ use Rattle.snd_tools.specs.Commands.{Command, Mix, Info, Gen, command}
 use Rattle.snd_tools.specs.Reading.{◌>>=◌, file_read, most_sound_bytes, scene_read, sounds_read, surveyed}
 
 -- a file that is to be written
-pub record Output : Type 0 where
+pub record OutputFile : Type 0 where
   pub name : List ℕ
   pub bytes : List ℕ
 
 -- the files, in the order in which they are written, and then the line
 pub record Report : Type 0 where
-  pub outputs : List Output
+  pub outputs : List OutputFile
   pub line : List ℕ
 
 abbrev pub Outcome : Type 0
@@ -86,8 +86,8 @@ mix_outcome files scene out = do
 abbrev pub info_line : Wave → List ℕ
 info_line w = line (wave_text (record { wave = w; pages = page_count w.frames }))
 
-abbrev pub waves_line : List ℕ → Result (List ℕ) Status
-waves_line bytes = do
+abbrev pub survey_line : List ℕ → Result (List ℕ) Status
+survey_line bytes = do
   w ← surveyed 0 bytes
   Ok (info_line w)
 
@@ -96,22 +96,22 @@ only_line text = record { outputs = []; line = text }
 
 abbrev pub info_outcome : Files → List ℕ → Outcome
 info_outcome files file = do
-  text ← file_read most_sound_bytes file (get files file) >>= waves_line
+  text ← file_read most_sound_bytes file (get files file) >>= survey_line
   Ok (only_line text)
 
 -- `gen`: the sound files of the scene of a number, and then its script
-abbrev pub sound_output : ℕ → List ℕ → ℕ → Output
+abbrev pub sound_output : ℕ → List ℕ → ℕ → OutputFile
 sound_output number prefix i = record { name = sound_name prefix i; bytes = sound_file number i }
 
 -- the first sound files of the scene
-unfoldable pub sound_outputs : ℕ → List ℕ → ℕ → List Output
+unfoldable pub sound_outputs : ℕ → List ℕ → ℕ → List OutputFile
 sound_outputs number prefix count = map (sound_output number prefix) (range_with_len 0 count)
 
 -- the script, by the state after the draws of the sounds
-abbrev pub script_outputs : ℕ → List ℕ → List Output
+abbrev pub script_outputs : ℕ → List ℕ → List OutputFile
 script_outputs start prefix = record { name = script_name prefix; bytes = script_from start prefix } ∷ []
 
-abbrev pub gen_outputs : ℕ → List ℕ → List Output
+abbrev pub gen_outputs : ℕ → List ℕ → List OutputFile
 gen_outputs number prefix = sound_outputs number prefix sounds ++ record { name = script_name prefix; bytes = script number prefix } ∷ []
 
 abbrev pub gen_line : List ℕ

@@ -21,8 +21,8 @@ abbrev pub most_sound_bytes : ℕ
 most_sound_bytes = 67108864
 
 -- 128 MiB, of all sound files of a scene
-abbrev pub most_sounds_bytes : ℕ
-most_sounds_bytes = 134217728
+abbrev pub most_total_bytes : ℕ
+most_total_bytes = 134217728
 
 -- the first refusal is what it comes to
 infixl 10 ◌>>=◌
@@ -50,7 +50,7 @@ scene_read name file = file_read most_script_bytes name file >>= script_read
 -- with the file that follows them, the sound files have so many bytes in all
 abbrev pub within_sum : ℕ → List ℕ → List ℕ → Result (List ℕ) Status
 within_sum total name bytes =
-    if nat_lt most_sounds_bytes (total + length bytes) then Err (TooLong name most_sounds_bytes) else Ok bytes
+    if nat_lt most_total_bytes (total + length bytes) then Err (TooLong name most_total_bytes) else Ok bytes
 
 -- the sound of a resource of that number
 abbrev pub file_or_fault : {A : Type 0} → ℕ → Result A WaveFault → Result A Status
@@ -117,12 +117,12 @@ abbrev pub stopped_by_depot : {A : Type 0} → Result A Status → Bool
 stopped_by_depot (Ok x) = false
 stopped_by_depot (Err status) = is_depot_fault status
 
--- whether the work on files can stop with a status: not with `Done`, nor with the fault of the text sink
+-- whether the work on files can stop with a status: not with `Done`, nor with what the words or the text sink alone cause
 abbrev pub can_stop_with : Status → Bool
 can_stop_with Done = false
 can_stop_with TextFault = false
 can_stop_with OutOfMemory = true
-can_stop_with (Usage word) = true
+can_stop_with (Usage word) = false
 can_stop_with DepotFault = true
 can_stop_with (Absent name) = true
 can_stop_with (TooLong name limit) = true

@@ -9,7 +9,7 @@ use crate::words::{is_path, is_prefix, read_number};
 pub(crate) enum Command<'a> {
     /// `mix SCENE OUT`: renders the scene of the script SCENE to the WAVE file OUT.
     Mix { scene: &'a str, out: &'a str },
-    /// `info FILE`: tells what the WAVE file FILE says of its sound.
+    /// `info FILE`: prints the format of the WAVE file FILE and the number of its frames.
     Info { file: &'a str },
     /// `gen NUMBER PREFIX`: writes the scene of a number, and its sound files.
     Gen { number: u32, prefix: &'a str },

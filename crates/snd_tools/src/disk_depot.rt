@@ -6,11 +6,10 @@ use std::fs;
 use std::io::{ErrorKind, Read, Write};
 use std::rt::Files;
 
-/// How many bytes are read at once.
-const BUFFER_BYTES: usize = 16_384;
-
 /// The files of the system, by their paths. It tells nothing of what they hold. Its count of faults
-/// rises at each error of the system, except where a file to be read isn't there.
+/// rises at each error of the system, except where a file to be read isn't there, and a call that a
+/// signal interrupts is made again. An error that the system has only at the closing of a file isn't
+/// seen: `finish` always answers `Done`.
 #[derive(Drop)]
 pub struct DiskDepot<'a, R: Files> {
     rt: &'a R,
@@ -26,9 +25,10 @@ struct OpenFile<F> {
 }
 
 impl<'a, R: Files> DiskDepot<'a, R> {
-    /// The files that `rt` reaches, none of them open.
+    /// The files that `rt` reaches, none of them open, with no fault so far.
     pub fn new(rt: &'a R) -> Self
-        ensures { ⟦<DiskDepot<'a, R> as Depot>⟧.writing result ≡ None }
+        ensures writing { ⟦<DiskDepot<'a, R> as Depot>⟧.writing result ≡ None }
+        ensures faults { ⟦<DiskDepot<'a, R> as Depot>⟧.faults result ≡ 0 }
     {
         DiskDepot {
             rt,
@@ -50,7 +50,7 @@ impl<R: Files> Depot for DiskDepot<'_, R> {
 
     fn fetch(&mut self, _alloc: Global, name: &str, limit: u64, into: &mut Vec<u8>) -> Fetch {
         let reading = match fs::open(self.rt, name) {
-            Ok(mut file) => read_whole(&mut file, limit, into),
+            Ok(file) => read_whole(file, limit, into),
             Err(error) if error.kind() == ErrorKind::NotFound => return Fetch::Absent,
             Err(_) => Fetch::Failed,
         };
@@ -83,7 +83,7 @@ impl<R: Files> Depot for DiskDepot<'_, R> {
         let Some(mut open_file) = self.current.take() else {
             unreachable!()
         };
-        if write_whole(&mut open_file.file, bytes) {
+        if open_file.file.write_all(bytes).is_ok() {
             self.current = Some(open_file);
             Put::Done
         } else {
@@ -98,42 +98,15 @@ impl<R: Files> Depot for DiskDepot<'_, R> {
     }
 }
 
-/// Reads to the file's end, which is a read of no bytes, but at most one byte more than the limit.
-fn read_whole<F: Read>(file: &mut F, limit: u64, into: &mut Vec<u8>) -> Fetch
+/// Reads a file to its end, but at most one byte more than the limit.
+fn read_whole<F: Read + Drop>(file: F, limit: u64, into: &mut Vec<u8>) -> Fetch
     requires { into.old.items ≡ [] }
     ensures { result ≡ Fetch.Fetched → vec_len into.new ≤ limit }
 {
-    let mut buffer = [0; BUFFER_BYTES];
-    for _ in 0..u64::MAX {
-        let room = limit - into.len() as u64;
-        let wanted = if room < BUFFER_BYTES as u64 {
-            room as usize + 1
-        } else {
-            BUFFER_BYTES
-        };
-        match file.read(&mut buffer[..wanted]) {
-            Ok(0) => return Fetch::Fetched,
-            Ok(count) if count as u64 > room => return Fetch::TooLong,
-            Ok(count) => {
-                if into.extend_from_slice(&buffer[..count]).is_err() {
-                    return Fetch::OutOfMemory;
-                }
-            }
-            Err(_) => return Fetch::Failed,
-        }
+    match file.take(limit.saturating_add(1)).read_to_end(into) {
+        Ok(_) if into.len() as u64 > limit => Fetch::TooLong,
+        Ok(_) => Fetch::Fetched,
+        Err(error) if error.kind() == ErrorKind::OutOfMemory => Fetch::OutOfMemory,
+        Err(_) => Fetch::Failed,
     }
-    Fetch::Failed
-}
-
-/// Whether all bytes were written. A write that takes none of them is a fault.
-pub(crate) fn write_whole<F: Write>(file: &mut F, bytes: &[u8]) -> bool {
-    let mut at = 0;
-    while at < bytes.len() {
-        match file.write(&bytes[at..]) {
-            Ok(0) => return false,
-            Ok(count) => at += count,
-            Err(_) => return false,
-        }
-    }
-    true
 }

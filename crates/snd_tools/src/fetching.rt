@@ -20,7 +20,7 @@ const MAX_SCRIPT_BYTES: u64 = 4_194_304;
 pub(crate) const MAX_SOUND_BYTES: u64 = 67_108_864;
 
 /// The most bytes of all sound files of a scene.
-const MAX_SOUNDS_BYTES: u64 = 134_217_728;
+const MAX_TOTAL_BYTES: u64 = 134_217_728;
 
 /// Fetches a file of at most `limit` bytes, and no file changes.
 pub(crate) fn fetch_file<D: Depot>(
@@ -153,8 +153,8 @@ fn clip_of(
     ensures no_fault { stopped_by_depot result ≡ false }
     ensures stop { can_stop result ≡ true }
 {
-    if total + bytes.len() as u64 > MAX_SOUNDS_BYTES {
-        return Err(too_long(alloc, name, MAX_SOUNDS_BYTES));
+    if total + bytes.len() as u64 > MAX_TOTAL_BYTES {
+        return Err(too_long(alloc, name, MAX_TOTAL_BYTES));
     }
     match Clip::new(alloc, bytes) {
         Ok(clip) => Ok(clip),

@@ -17,7 +17,7 @@ use std::alloc::Global;
 use std::marker::Model;
 
 /// `gen NUMBER PREFIX`: writes the sound files of the scene of a number, `PREFIX-0.wav` to
-/// `PREFIX-7.wav`, and then its script `PREFIX.toml`. It gives the line that tells of it.
+/// `PREFIX-7.wav`, and then its script `PREFIX.toml`. It gives its line.
 pub(crate) fn generate<D: Depot>(
     alloc: Global,
     depot: &mut D,
@@ -41,7 +41,7 @@ pub(crate) fn generate<D: Depot>(
     }
 }
 
-/// The line that tells how many files there are.
+/// The line with the number of files.
 fn gen_line(alloc: Global) -> Result<String, OutOfMemory>
     ensures { IfOk result (λ line. string_bytes line ≡ gen_line) }
 {

@@ -2,7 +2,7 @@ ghost use Rattle.std.specs.Prelude.{◌≡◌, true, None, Some, IfOk, false, st
 ghost use Rattle.snd_io.specs.Faults.{CountsFaults, Rose};
 ghost use Rattle.snd_io.specs.Files.{Files};
 ghost use Rattle.snd_tools.specs.Meets.{Works};
-ghost use Rattle.snd_tools.specs.Outcome.{info_outcome, info_line, waves_line};
+ghost use Rattle.snd_tools.specs.Outcome.{info_outcome, info_line, survey_line};
 ghost use Rattle.snd_tools.specs.Reading.{GivesBy, stopped_by_depot, can_stop};
 
 use crate::fetching::{MAX_SOUND_BYTES, fetch_file};
@@ -30,7 +30,7 @@ pub(crate) fn info<D: Depot>(alloc: Global, depot: &mut D, file: &str) -> Result
 
 /// The line on a WAVE file, or its fault.
 fn wave_line(alloc: Global, bytes: &[u8]) -> Result<String, Status>
-    ensures value { GivesBy string_bytes result (waves_line bytes.now) }
+    ensures value { GivesBy string_bytes result (survey_line bytes.now) }
     ensures no_fault { stopped_by_depot result ≡ false }
     ensures stop { can_stop result ≡ true }
 {
@@ -44,7 +44,7 @@ fn wave_line(alloc: Global, bytes: &[u8]) -> Result<String, Status>
     }
 }
 
-/// The line that tells of a sound.
+/// The line of a sound.
 fn info_line(alloc: Global, wave: Wave) -> Result<String, OutOfMemory>
     ensures { IfOk result (λ text. string_bytes text ≡ info_line wave) }
 {

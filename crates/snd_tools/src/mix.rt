@@ -14,8 +14,8 @@ use snd_status::Status;
 use std::alloc::Global;
 use std::marker::Model;
 
-/// `mix SCENE OUT`: reads and renders all, and only then creates OUT. It gives the line that tells of
-/// it.
+/// `mix SCENE OUT`: reads and renders all, and only then creates OUT. It gives the line of the
+/// rendering.
 pub(crate) fn mix<D: Depot>(
     alloc: Global,
     depot: &mut D,

@@ -16,7 +16,7 @@ use snd_status::MixReport;
 use std::alloc::Global;
 use std::marker::Model;
 
-/// A scene that was rendered: the bytes of its WAVE file, and the line that tells of it.
+/// A scene that was rendered: the bytes of its WAVE file, and its line.
 #[derive(Drop)]
 pub(crate) struct Rendering {
     pub(crate) file: MemSink,
@@ -59,7 +59,7 @@ fn mix_in_memory(alloc: Global, scene: &Scene, clips: &[Clip]) -> Result<Mixed, 
     }
 }
 
-/// The line that tells of a scene that was rendered.
+/// The line of a scene that was rendered.
 fn mix_line(
     alloc: Global,
     scene: &Scene,

@@ -1,4 +1,5 @@
-use crate::disk_depot::write_whole;
+ghost use Rattle.std.specs.Prelude.{◌≡◌};
+
 use snd_io::{Put, Sink};
 use std::alloc::Global;
 use std::io::Write;
@@ -12,8 +13,10 @@ pub struct TextOut<W: Write + Drop> {
 }
 
 impl<W: Write + Drop> TextOut<W> {
-    /// The text that goes to this stream.
-    pub fn new(stream: W) -> Self {
+    /// The text that goes to this stream, with no fault so far.
+    pub fn new(stream: W) -> Self
+        ensures { ⟦<TextOut<W> as Sink>⟧.faults result ≡ 0 }
+    {
         TextOut { stream, faults: 0 }
     }
 }
@@ -26,7 +29,7 @@ impl<W: Write + Drop> Sink for TextOut<W> {
     ghost faults = { λ text. text.faults };
 
     fn write(&mut self, _alloc: Global, bytes: &[u8]) -> Put {
-        if write_whole(&mut self.stream, bytes) && self.stream.flush().is_ok() {
+        if self.stream.write_all(bytes).is_ok() && self.stream.flush().is_ok() {
             Put::Done
         } else {
             self.faults = self.faults.saturating_add(1);

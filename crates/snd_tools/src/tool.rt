@@ -1,15 +1,17 @@
-ghost use Rattle.std.specs.Prelude.{◌≡◌, ◌++◌, ℕ, List, None, Some, map, option_map, string_bytes, true};
+ghost use Rattle.std.specs.Prelude.{◌≡◌, ◌⊎◌, ◌++◌, ℕ, List, Err, None, Some, map, option_map, string_bytes, true};
 ghost use Rattle.snd_io.specs.Faults.{CountsFaults, Rose};
 ghost use Rattle.snd_io.specs.Files.{Files};
+ghost use Rattle.snd_tools.specs.Commands.{command};
 ghost use Rattle.snd_tools.specs.Meets.{Meets, Works};
 ghost use Rattle.snd_tools.specs.Outcome.{outcome};
-ghost use Rattle.snd_tools.specs.Reading.{can_stop, stopped_by_depot};
+ghost use Rattle.snd_tools.specs.Printing.{has_outcome_line};
+ghost use Rattle.snd_tools.specs.Reading.{stopped_by_depot};
 
 use crate::command::{Command, read_command};
 use crate::generating::generate;
 use crate::info::info;
 use crate::mix::mix;
-use crate::telling::tell;
+use crate::printing::print_outcome;
 use snd_io::{Depot, Sink};
 use snd_status::Status;
 use std::alloc::Global;
@@ -18,7 +20,7 @@ use std::alloc::Global;
 /// line on what it came to.
 ///
 /// `mix SCENE OUT` reads the scene's script SCENE and its sound files from the depot and writes OUT,
-/// the WAVE file of the scene. `info FILE` tells what a WAVE file says of its sound. `gen NUMBER PREFIX`
+/// the WAVE file of the scene. `info FILE` reads the format of a WAVE file and the number of its frames. `gen NUMBER PREFIX`
 /// writes the sound files and the script of the scene of a number.
 pub fn run_tool<D: Depot, T: Sink>(
     alloc: Global,
@@ -31,13 +33,18 @@ pub fn run_tool<D: Depot, T: Sink>(
     // Where the files are told, the status is that of the outcome, and the files and the text are as it says.
     ensures told { (before : Files) → D.files depot.old ≡ Some before → (after : Files) × (added : List ℕ) × (D.files depot.new ≡ Some after) × (T.written text.new ≡ option_map (λ t. t ++ added) (T.written text.old)) × Meets (outcome (map string_bytes words.now) before) before after added (Rose (D.faults depot.old) (D.faults depot.new)) (Rose (T.faults text.old) (T.faults text.new)) result }
 
+    // Told or not: words that are no command are answered as such, unless there was no memory for the line, and
+    // no others are.
+    ensures usage { (word : ℕ) → command (map string_bytes words.now) ≡ Err word → (D.files depot.new ≡ D.files depot.old) × ((result ≡ Status.Usage word) ⊎ (result ≡ Status.OutOfMemory)) }
+    ensures words { (word : ℕ) → result ≡ Status.Usage word → command (map string_bytes words.now) ≡ Err word }
+
     // The depot and the text are said to have failed only where their counts rose, told or not.
     ensures fault { result ≡ Status.DepotFault → Rose (D.faults depot.old) (D.faults depot.new) }
     ensures text_fault { result ≡ Status.TextFault → Rose (T.faults text.old) (T.faults text.new) }
     ensures closed { D.writing depot.new ≡ None }
 {
     let came_to = carry_out(alloc, words, depot);
-    tell(alloc, text, came_to)
+    print_outcome(alloc, text, came_to)
 }
 
 /// Does the work of a command on the files, and gives the line that is to be printed of it.
@@ -46,7 +53,9 @@ fn carry_out<D: Depot>(alloc: Global, words: &[String], depot: &mut D) -> Result
     ensures told { (before : Files) → D.files depot.old ≡ Some before → (after : Files) × (D.files depot.new ≡ Some after) × Works (outcome (map string_bytes words.now) before) before after (Rose (D.faults depot.old) (D.faults depot.new)) result }
     ensures closed { D.writing depot.new ≡ None }
     ensures cause { CountsFaults (D.faults depot.old) (D.faults depot.new) (stopped_by_depot result) }
-    ensures stop { can_stop result ≡ true }
+    ensures usage { (word : ℕ) → command (map string_bytes words.now) ≡ Err word → (result ≡ Err (Status.Usage word)) × (D.files depot.new ≡ D.files depot.old) }
+    ensures words { (word : ℕ) → result ≡ Err (Status.Usage word) → command (map string_bytes words.now) ≡ Err word }
+    ensures line { has_outcome_line result ≡ true }
 {
     match read_command(words) {
         Ok(Command::Mix { scene, out }) => mix(alloc, depot, scene, out),

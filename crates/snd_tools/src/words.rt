@@ -35,7 +35,7 @@ fn is_prefix_byte(byte: u8) -> bool
     byte.is_ascii_alphanumeric() || matches!(byte, b'_' | b'-' | b'.' | b'/')
 }
 
-/// The number of a word of 1 to 10 digits, which is at most 4294967295.
+/// The number of a word of 1 to 10 digits with no leading zero, which is at most 4294967295.
 pub(crate) fn read_number(word: &str) -> Option<u32>
     ensures { result ≡ spec.number word.now }
 {
@@ -49,7 +49,13 @@ pub(crate) fn read_number(word: &str) -> Option<u32>
 fn is_numeral(word: &str) -> bool
     ensures { result ≡ spec.is_numeral word.now }
 {
-    1 <= word.len() && word.len() <= MAX_DIGITS && has_only_digits(word)
+    1 <= word.len() && word.len() <= MAX_DIGITS && has_only_digits(word) && !has_leading_zero(word)
+}
+
+fn has_leading_zero(word: &str) -> bool
+    ensures { result ≡ spec.has_leading_zero word.now }
+{
+    matches!(word.as_bytes(), [b'0', _, ..])
 }
 
 fn has_only_digits(word: &str) -> bool

@@ -3,16 +3,16 @@ use Rattle.gen_scene.specs.Script.{resource_lines, top_lines, script_from}
 use Rattle.gen_scene.proofs.Pieces.{text_more, text_start, all_pieces}
 use Rattle.gen_scene.proofs.script_text.script.Goals as goal
 
-pub loop-i-init : goal.loop-i-init
+pub loop-number-init : goal.loop-number-init
 unfolding top_lines
-loop-i-init c = c.in_ok-text.ensures.ok ∙ text_start (resource_lines c.args.prefix.now) top_lines
+loop-number-init c = c.in_ok-text.ensures.ok ∙ text_start (resource_lines c.args.prefix.now) top_lines
 
-pub loop-i-preserved : goal.loop-i-preserved
-loop-i-preserved c = text_more (resource_lines c.args.prefix.now) top_lines _ _ c.loop-i.i c.loop-i.invariant c.in_ok-write.ensures.bytes
+pub loop-number-preserved : goal.loop-number-preserved
+loop-number-preserved c = text_more (resource_lines c.args.prefix.now) top_lines _ _ c.loop-number.number c.loop-number.invariant c.in_ok-write.ensures.bytes
 
 pub returns : goal.returns
 unfolding script_from
 returns c =
-    let i : c.loop-i.i ≡ 8 = omega arith in
-    all_pieces top_lines _ _ _ _ _ _ _ _ _ _ (rw i at c.loop-i.invariant) c.in_ok-push_nodes.ensures c.in_ok-push_buses.ensures.text
+    let i : c.loop-number.number ≡ 8 = omega arith in
+    all_pieces top_lines _ _ _ _ _ _ _ _ _ _ (rw i at c.loop-number.invariant) c.in_ok-push_nodes.ensures c.in_ok-push_buses.ensures.text
     (rw c.in_ok-push_buses.ensures.draws at c.in_ok-push_edits.ensures)

@@ -2,8 +2,7 @@ ghost use Rattle.std.specs.Prelude.{◌≡◌, ◌++◌, ℕ, List, IfOk, true, 
 ghost use Rattle.snd_io.specs.Answers.{IsPrefix};
 ghost use Rattle.snd_io.specs.Faults.{CountsFaults, Rose};
 ghost use Rattle.snd_tools.specs.Outcome.{status_line};
-ghost use Rattle.snd_tools.specs.Reading.{can_stop, can_stop_with};
-ghost use Rattle.snd_tools.specs.Telling.{Tells, TellsOr, is_text_fault};
+ghost use Rattle.snd_tools.specs.Printing.{Prints, PrintsOr, has_line, has_outcome_line, is_text_fault};
 
 use plain_data::OutOfMemory;
 use snd_io::{Put, Sink};
@@ -15,9 +14,13 @@ use std::marker::Model;
 const OUT_OF_MEMORY_LINE: &str = "out of memory\n";
 
 /// Writes the line of what a command came to, its report or its status, and gives the status.
-pub(crate) fn tell<T: Sink>(alloc: Global, text: &mut T, came_to: Result<String, Status>) -> Status
-    requires { can_stop came_to ≡ true }
-    ensures tells { (added : List ℕ) × (T.written text.new ≡ option_map (λ t. t ++ added) (T.written text.old)) × Tells came_to added (Rose (T.faults text.old) (T.faults text.new)) result }
+pub(crate) fn print_outcome<T: Sink>(
+    alloc: Global,
+    text: &mut T,
+    came_to: Result<String, Status>,
+) -> Status
+    requires { has_outcome_line came_to ≡ true }
+    ensures prints { (added : List ℕ) × (T.written text.new ≡ option_map (λ t. t ++ added) (T.written text.old)) × Prints came_to added (Rose (T.faults text.old) (T.faults text.new)) result }
     ensures cause { CountsFaults (T.faults text.old) (T.faults text.new) (is_text_fault result) }
 {
     match came_to {
@@ -26,19 +29,19 @@ pub(crate) fn tell<T: Sink>(alloc: Global, text: &mut T, came_to: Result<String,
             Put::Failed => Status::TextFault,
             Put::OutOfMemory => Status::OutOfMemory,
         },
-        Err(status) => tell_status(alloc, text, status),
+        Err(status) => print_status(alloc, text, status),
     }
 }
 
 /// Writes the line of a status, and gives the status, or want of memory.
-fn tell_status<T: Sink>(alloc: Global, text: &mut T, status: Status) -> Status
-    requires { can_stop_with status ≡ true }
-    ensures tells { (added : List ℕ) × (T.written text.new ≡ option_map (λ t. t ++ added) (T.written text.old)) × TellsOr status added (Rose (T.faults text.old) (T.faults text.new)) result }
+fn print_status<T: Sink>(alloc: Global, text: &mut T, status: Status) -> Status
+    requires { has_line status ≡ true }
+    ensures prints { (added : List ℕ) × (T.written text.new ≡ option_map (λ t. t ++ added) (T.written text.old)) × PrintsOr status added (Rose (T.faults text.old) (T.faults text.new)) result }
     ensures cause { CountsFaults (T.faults text.old) (T.faults text.new) (is_text_fault result) }
 {
     let line = match status_line(alloc, &status) {
         Ok(line) => line,
-        Err(_) => return tell_out_of_memory(alloc, text),
+        Err(_) => return print_out_of_memory(alloc, text),
     };
     match text.write(alloc, line.as_bytes()) {
         Put::Done | Put::Failed => status,
@@ -47,9 +50,9 @@ fn tell_status<T: Sink>(alloc: Global, text: &mut T, status: Status) -> Status
 }
 
 /// Writes the line of want of memory, and gives that status.
-fn tell_out_of_memory<T: Sink>(alloc: Global, text: &mut T) -> Status
+fn print_out_of_memory<T: Sink>(alloc: Global, text: &mut T) -> Status
     ensures status { result ≡ Status.OutOfMemory }
-    ensures tells { (added : List ℕ) × (T.written text.new ≡ option_map (λ t. t ++ added) (T.written text.old)) × IsPrefix added (status_line Status.OutOfMemory) }
+    ensures prints { (added : List ℕ) × (T.written text.new ≡ option_map (λ t. t ++ added) (T.written text.old)) × IsPrefix added (status_line Status.OutOfMemory) }
     ensures cause { CountsFaults (T.faults text.old) (T.faults text.new) false }
 {
     text.write(alloc, OUT_OF_MEMORY_LINE.as_bytes());

@@ -58,7 +58,7 @@ fn opening(bytes: &[u8]) -> Result<Option<u64>, WaveFault>
 ///
 /// # Errors
 ///
-/// [`WaveFault`], the first in this order.
+/// [`WaveFault`], the first in this order:
 ///
 /// The file begins with `RIFF` or `RF64`, a size that is not looked at, and `WAVE` (else `NotRiff`,
 /// `NotWave`). In an RF64 file a whole `ds64` chunk of at least 28 bytes is next (else

@@ -62,8 +62,8 @@ fn channel_part_into(
 /// be any, and the block's headers are read; before a later frame they stand at the frame before
 /// `frames.start`, as an earlier part left them. They are left at the last of `frames`.
 ///
-/// Conditions: there are as many decoders as channels, of any number; `frames` is not empty and lies
-/// in the block; `out` has room for it; all headers have a step index of at most 88.
+/// Conditions: there are at least as many decoders as channels, any number of them; `frames` is not
+/// empty and lies in the block; `out` has room for it; all headers have a step index of at most 88.
 pub fn part_into(block: &[u8], ch: u8, frames: Range<usize>, decoders: &mut [Ima], out: &mut [i16])
     requires decoders { ch ≤ length decoders.old }
     requires some { frames.start < frames.end }

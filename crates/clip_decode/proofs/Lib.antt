@@ -4,6 +4,7 @@ pub mod FrameContainers
 pub mod FrameLists
 pub mod ImaBlocks
 pub mod ImaParts
+pub mod BlockSums
 pub mod PageLists
 pub mod Limits
 pub mod PageJoins

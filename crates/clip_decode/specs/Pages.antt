@@ -6,7 +6,7 @@ use Rattle.clip_decode.specs.Frames.{frames}
 abbrev pub frames_per_page : ℕ
 frames_per_page = 8192
 
--- how many pages so many frames fill: their 8192nd part, rounded up
+-- how many pages so many frames fill: their number divided by 8192, rounded up
 abbrev pub page_count : ℕ → ℕ
 page_count frames = div_ceil frames frames_per_page
 

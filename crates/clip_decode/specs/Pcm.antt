@@ -17,7 +17,7 @@ use Rattle.clip_decode.specs.Widened.{widened}
 abbrev pub signed_number : ℕ → List ℕ → ℤ
 signed_number n bytes = twos_complement n (little_number n bytes)
 
--- the sample in a container of 1 to 4 bytes. Of a number of four bytes it is the floor of its 256th part
+-- the sample in a container of 1 to 4 bytes. A number of four bytes is divided by 256, rounded down
 unfoldable pub pcm_value : List ℕ → ℤ
 pcm_value container =
     if length container == 1 then (pos (slice_index container 0) -ℤ pos 128) *ℤ pos 65536 else

@@ -34,9 +34,13 @@ impl Model for Clip {
 }
 
 impl Clip {
-    /// The clip of a file, which keeps its bytes. `Fault` is the first fault of the file, as
-    /// `wave_read::survey` answers it, and comes exactly where the file has one; only a file without
-    /// one may be answered `OutOfMemory`.
+    /// The clip of a file, which keeps its bytes.
+    ///
+    /// # Errors
+    ///
+    /// [`ClipError::Fault`] exactly where the file has a fault: the first one, as
+    /// `wave_read::survey` answers it. [`ClipError::OutOfMemory`] where there is no memory, only for
+    /// a file without a fault.
     pub fn new(alloc: Global, bytes: Vec<u8>) -> Result<Clip, ClipError>
         ensures bytes { IfOk result (λ clip. clip.bytes ≡ bytes.items) }
         ensures wave { IfOk result (λ clip. wave bytes.items ≡ Ok clip.wave) }
@@ -70,7 +74,7 @@ impl Clip {
     /// Frames stand one after the other, each of one container a channel, and a container of 1 byte
     /// is unsigned, a longer one signed and little-endian (Microsoft's RIFF WAVE description). A
     /// byte b gives `(b - 128) * 65536`, a number v of 2 bytes `v * 256`, of 3 bytes v, and of 4
-    /// bytes the floor of `v / 256`. Low bits that the file doesn't use are not masked. No memory is
+    /// bytes `v / 256`, rounded down. Low bits that the file doesn't use are not masked. No memory is
     /// taken, and the headers are not read again.
     #[tactic(auto, unfolding(crate::specs::Pcm::pcm_sample))]
     pub fn pcm_sample(&self, frame: u64, channel: u8) -> i32

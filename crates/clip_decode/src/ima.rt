@@ -47,8 +47,9 @@ fn part_len(first: usize, left: usize, most: u64) -> usize
     (len as u64).min(most) as usize
 }
 
-/// Decodes some of the frames `frames`, the first ones, behind those from frame `from` on, which
-/// `out` has already, and answers their number. `scratch` holds them before they are widened.
+/// Decodes the first few of `frames` and answers how many. `out` holds the frames from `from` on,
+/// and they are written behind those that it has already. `scratch` holds them before they are
+/// widened.
 fn part_into(
     bytes: &[u8],
     wave: &Wave,

@@ -30,7 +30,7 @@ pub use clip_error::ClipError;
 pub use cursor::Cursor;
 pub use decoding::fill;
 pub use laws::{
-    frames_are_few, frames_have_samples, no_frames_where_refused, pages_are_the_frames,
-    pages_have_samples,
+    frames_are_few, frames_have_samples, ima_has_the_frames_of_its_blocks, no_frames_where_refused,
+    pages_are_the_frames, pages_have_samples,
 };
 pub use page::{FRAMES_PER_PAGE, Page, pages};

@@ -50,6 +50,10 @@ impl Model for Page {
 
 impl Page {
     /// A page of no frames yet, with room for 8192 frames of 1 to 8 channels.
+    ///
+    /// # Errors
+    ///
+    /// [`OutOfMemory`] where there is no memory.
     pub fn new(alloc: Global, channels: u8) -> Result<Page, OutOfMemory>
         requires least { 1 ≤ channels }
         requires most { channels ≤ 8 }

@@ -52,8 +52,7 @@ fn sample_24(container: &[u8]) -> i32
     ensures exact { result ≡ pcm_value container.now }
     ensures range { Is24 result }
 {
-    let low = i32::from(container[0]) + i32::from(container[1]) * 256;
-    low + i32::from(container[2].cast_signed()) * 65_536
+    LittleEndian::read_i24(container)
 }
 
 /// The same of four bytes.
@@ -80,6 +79,8 @@ pub fn value(container: &[u8]) -> i32
         _ => sample_32(container),
     }
 }
+
+// One loop for each size, so that the size is a constant in it.
 
 fn samples_8_into(containers: &[u8], count: usize, out: &mut [i32])
     requires there { 1 * count ≤ length containers.now }

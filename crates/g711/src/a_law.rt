@@ -26,8 +26,8 @@ const ALAW: [i16; 256] = [
     784, 880, 848,
 ];
 
-/// The linear 16-bit sample of an A-law code (ITU-T G.711): from -32256 to 32256, where the code
-/// holds the upper thirteen bits.
+/// The linear sample of an A-law code: its value in ITU-T G.711, of 13 bits, times 8. It lies from
+/// -32256 to 32256.
 pub fn alaw(code: u8) -> i16
     ensures { result ≡ alaw code }
 {

@@ -25,8 +25,8 @@ const ULAW: [i16; 256] = [
     196, 180, 164, 148, 132, 120, 112, 104, 96, 88, 80, 72, 64, 56, 48, 40, 32, 24, 16, 8, 0,
 ];
 
-/// The linear 16-bit sample of a mu-law code (ITU-T G.711): from -32124 to 32124, where the code
-/// holds the upper fourteen bits.
+/// The linear sample of a mu-law code: its value in ITU-T G.711, of 14 bits, times 4. It lies from
+/// -32124 to 32124.
 pub fn ulaw(code: u8) -> i16
     ensures { result ≡ ulaw code }
 {

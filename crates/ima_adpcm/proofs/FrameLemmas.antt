@@ -146,6 +146,15 @@ channels_at ch frames value old new k some w =
           ∙ sym (get_or-append_right (interleaved ch frames value) (drop (frames * ch) old) k (pos 0) (omega arith))
     ]
 
+-- each place behind the frames is as before
+pub places-beyond : (ch frames : ℕ) (old new : List ℤ) → 0 < ch
+    → ((f d : ℕ) → d < ch → frames ≤ f → sample_at ch new f d ≡ sample_at ch old f d)
+    → (k : ℕ) → frames * ch ≤ k → get_or new k (pos 0) ≡ get_or old k (pos 0)
+places-beyond ch frames old new some beyond k behind =
+    ap (λ j. get_or new j (pos 0)) (sym (place_of ch k))
+    ∙ beyond (k / ch) (k % ch) (mod-lt k some) (le-div frames k ch some behind)
+    ∙ ap (λ j. get_or old j (pos 0)) (place_of ch k)
+
 -- the samples of all channels, interleaved, and then what was there
 pub channels-all : (ch frames : ℕ) (value : ℕ → ℕ → ℤ) (old new : List ℤ) → 0 < ch → frames * ch ≤ length old
     → length new ≡ length old → ChannelsWritten ch frames ch value old new

@@ -1,11 +1,17 @@
 -- What decoding a block answers.
-use Rattle.std.specs.Prelude.{ℕ, ◌*◌, List, length, Bool, nat_lt, Option, Result, Ok, Err, find, if◌then◌else◌}
+use Rattle.std.specs.Prelude.{ℕ, ◌*◌, List, ◌++◌, codes, length, Bool, nat_lt, Option, Result, Ok, Err, find, if◌then◌else◌}
 use Rattle.std.specs.Option.{option_map, option_map_or}
 use Rattle.std.specs.List.{range_with_len}
+use Rattle.std.specs.Fmt.{decimal}
 use Rattle.ima_adpcm.specs.declared.fault.ImaFault.{ImaFault}
 use Rattle.ima_adpcm.specs.declared.fault.ImaFault.TheVariants.{StepIndex}
 use Rattle.ima_adpcm.specs.Quantizer.{last_index}
 use Rattle.ima_adpcm.specs.Blocks.{word_bytes, header_index, block_frames}
+
+-- the text of a fault, with decimal numbers
+abbrev pub fault_text : ImaFault → List ℕ
+fault_text (StepIndex channel found) =
+    codes "channel " ++ decimal channel ++ codes " has step index " ++ decimal found ++ codes ", above 88"
 
 -- the header of channel c has a step index that the table lacks
 abbrev pub is_faulty : List ℕ → ℕ → Bool

@@ -15,7 +15,7 @@ use crate::word::{WORD_BYTES, WORD_CODES, code, code_in, word};
 use std::ops::Range;
 
 /// How many frames a block of `len` bytes with `ch` channels has: none where it lacks a header,
-/// else one for the headers and eight for each whole group.
+/// else one for the headers and eight for each whole group. Condition: `ch` is at least 1.
 pub fn block_frames(len: usize, ch: u8) -> usize
     requires channels { 1 ≤ ch }
     requires fits { block_frames len ch < 2 ^ 64 }
@@ -31,7 +31,7 @@ pub fn block_frames(len: usize, ch: u8) -> usize
 
 /// The decoder that the header of channel `c` gives; `None` exactly where its step index is above
 /// 88. Its predictor is the channel's sample of frame 0.
-pub fn header(block: &[u8], c: u8) -> Option<Ima>
+pub(crate) fn header(block: &[u8], c: u8) -> Option<Ima>
     requires { word_bytes * c + word_bytes ≤ length block.now }
     ensures none { IsNone result ↔ (last_index < header_index block.now c) }
     ensures some { IfSome result (λ s. s ≡ header block.now c) }
@@ -57,7 +57,7 @@ fn first_fault(block: &[u8], ch: u8) -> Option<ImaFault>
 }
 
 /// Writes one sample: that of channel `c` in frame `f`.
-pub fn put(out: &mut [i16], ch: u8, f: usize, c: u8, sample: i16)
+pub(crate) fn put(out: &mut [i16], ch: u8, f: usize, c: u8, sample: i16)
     requires channel { c < ch }
     requires room { f * ch + c < length out.old }
     ensures { Put ch f c sample out.old out.new }
@@ -68,7 +68,7 @@ pub fn put(out: &mut [i16], ch: u8, f: usize, c: u8, sample: i16)
 /// Goes on with channel `c` of a block: runs `before`, the decoder before code `codes.start`, over
 /// the channel's codes `codes`, writes the sample of each into `out`, interleaved, the first one
 /// into frame `at`, and answers the decoder after them. Code `j` makes frame `j + 1` of the block.
-pub fn channel_into(
+pub(crate) fn channel_into(
     block: &[u8],
     ch: u8,
     c: u8,
@@ -172,7 +172,7 @@ fn whole_channel_into(block: &[u8], ch: u8, c: u8, frames: usize, out: &mut [i16
     requires channel { c < ch }
     requires headers { word_bytes * ch ≤ length block.now }
     requires frames { frames ≡ block_frames (length block.now) ch }
-    requires sound { is_faulty block.now c ≡ false }
+    requires indices { is_faulty block.now c ≡ false }
     requires room { frames * ch ≤ length out.old }
     ensures { ChannelWritten ch c 0 frames (block_sample block.now ch c) out.old out.new }
 {

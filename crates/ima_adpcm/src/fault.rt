@@ -11,8 +11,13 @@ pub enum ImaFault {
 }
 
 impl fmt::Display for ImaFault {
+    ghost use Rattle.std.specs.Prelude.{Some};
+    ghost use Rattle.ima_adpcm.specs.Faults.{fault_text};
+
+    ghost output = { λ fault. Some (fault_text fault) };
+
     fn fmt<W: fmt::Write>(&self, f: &mut fmt::Formatter<W>) -> fmt::Result {
-        match self {
+        match *self {
             ImaFault::StepIndex { channel, found } => {
                 write!(f, "channel {channel} has step index {found}, above 88")
             }

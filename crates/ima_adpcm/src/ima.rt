@@ -74,5 +74,5 @@ fn moved(predictor: i16, by: u32, code: u8) -> i16
 fn nearest_sample(x: i32) -> i16
     ensures { result ≡ saturate_signed w16 x }
 {
-    x.max(i32::from(i16::MIN)).min(i32::from(i16::MAX)) as i16
+    x.clamp(i32::from(i16::MIN), i32::from(i16::MAX)) as i16
 }

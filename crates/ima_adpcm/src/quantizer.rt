@@ -17,10 +17,10 @@ const STEPS: [u16; 89] = [
 const INDEX_CHANGES: [i8; 8] = [-1, -1, -1, -1, 2, 4, 6, 8];
 
 /// The last index of the step table.
-pub const LAST_INDEX: u8 = 88;
+pub(crate) const LAST_INDEX: u8 = 88;
 
 /// The step size at an index.
-pub fn step_size(index: u8) -> u16
+pub(crate) fn step_size(index: u8) -> u16
     requires { index ≤ last_index }
     ensures { result ≡ step_size index }
 {
@@ -28,7 +28,7 @@ pub fn step_size(index: u8) -> u16
 }
 
 /// How far a code moves the predictor, by its low three bits.
-pub fn difference(step: u16, code: u8) -> u32
+pub(crate) fn difference(step: u16, code: u8) -> u32
     requires { code < 16 }
     ensures value { result ≡ difference step code }
     ensures bound { result < 2 ^ 17 }
@@ -39,7 +39,7 @@ pub fn difference(step: u16, code: u8) -> u32
 }
 
 /// The index after a code, within the table.
-pub fn next_index(index: u8, code: u8) -> u8
+pub(crate) fn next_index(index: u8, code: u8) -> u8
     requires { index ≤ last_index }
     ensures { result ≡ next_index index code }
 {
@@ -57,5 +57,5 @@ fn index_change(code: u8) -> i8
 fn nearest_index(index: i16) -> u8
     ensures { result ≡ nearest_index index }
 {
-    index.max(0).min(i16::from(LAST_INDEX)) as u8
+    index.clamp(0, i16::from(LAST_INDEX)) as u8
 }

@@ -1,7 +1,7 @@
 //! Samples of 24 bits.
 
-ghost use Rattle.std.specs.Prelude.{◌≡◌};
-ghost use Rattle.mix_fixed.specs.Sound.{Is24, IsScaled, sat24, scale};
+ghost use Rattle.std.specs.Prelude.{◌≡◌, ◌≤ℤ◌};
+ghost use Rattle.mix_fixed.specs.Sound.{Is24, IsScaled, least_sample, greatest_sample, sat24, scale};
 
 use crate::gain::Gain;
 
@@ -15,6 +15,8 @@ pub fn sat24(x: i64) -> i32
     ensures nearest { result ≡ sat24 x }
     ensures range { Is24 result }
     ensures kept { Is24 x → result ≡ x }
+    ensures above { greatest_sample ≤ℤ x → result ≡ greatest_sample }
+    ensures below { x ≤ℤ least_sample → result ≡ least_sample }
 {
     x.clamp(LEAST, GREATEST) as i32
 }

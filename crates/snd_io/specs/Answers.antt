@@ -1,4 +1,4 @@
--- What each answer of a store of files or of a text sink says.
+-- What each answer of a store of files or of a sink says.
 use Rattle.std.specs.Prelude.{◌≡◌, ℕ, ◌<◌, ◌≤◌, ◌⊎◌, List, [], ◌++◌, length, take, drop, refl, Option, Some, None, IsSomeAnd, Bool, true, false}
 use Rattle.std.specs.Option.{option_map}
 use Rattle.std.proofs.Common.{sym, ◌∙◌, ap, append-nil, append_assoc}

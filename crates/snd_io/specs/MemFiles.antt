@@ -5,7 +5,7 @@ use Rattle.snd_io.specs.declared.mem_depot.MemDepot.{MemDepot}
 use Rattle.snd_io.specs.declared.answers.Put.{Put}
 use Rattle.snd_io.specs.declared.answers.Put.TheVariants.{Done, Failed, OutOfMemory}
 use Rattle.snd_io.specs.Files.{Files, extend_file}
-use Rattle.snd_io.specs.Snags.{next_number, bytes_taken}
+use Rattle.snd_io.specs.Snags.{next_number, bytes_taken, faults_after}
 use Rattle.snd_io.specs.SureFiles.{sure_files, sure_writing}
 
 abbrev pub mem_files : MemDepot → Files
@@ -29,17 +29,21 @@ mem_appends depot = depot.snags.appends
 abbrev pub mem_faults : MemDepot → ℕ
 mem_faults depot = depot.snags.faults
 
--- the counts are those after one more call, which is no append
+-- the counts are those after one more call, which is no append. A fault is counted exactly where the call is listed
 pub record CountsCall (before after : MemDepot) : Type 0 where
   pub snags : mem_snags after ≡ mem_snags before
   pub calls : mem_calls after ≡ next_number (mem_calls before)
   pub appends : mem_appends after ≡ mem_appends before
+  pub faults : mem_faults after ≡ faults_after (mem_faults before) (bytes_taken (mem_snags before) (next_number (mem_calls before)) None)
 
--- the counts are those after one more append
+-- the counts are those after one more append. A fault is counted exactly where it is listed
 pub record CountsAppend (before after : MemDepot) : Type 0 where
   pub snags : mem_snags after ≡ mem_snags before
   pub calls : mem_calls after ≡ next_number (mem_calls before)
   pub appends : mem_appends after ≡ next_number (mem_appends before)
+  pub faults :
+      mem_faults after ≡ faults_after (mem_faults before)
+      (bytes_taken (mem_snags before) (next_number (mem_calls before)) (Some (next_number (mem_appends before))))
 
 -- the counts are as they were
 pub record CountsNothing (before after : MemDepot) : Type 0 where

@@ -7,7 +7,7 @@ pub enum Fetch {
     Absent,
     /// The file has more bytes than the limit.
     TooLong,
-    /// The store failed, and its count of faults rose.
+    /// The store failed, and its count of faults rose, unless it stood at the last number of a u64.
     Failed,
     /// There was no memory.
     OutOfMemory,
@@ -18,7 +18,8 @@ pub enum Fetch {
 pub enum Put {
     /// All of it was written.
     Done,
-    /// The store or the sink failed, and its count of faults rose.
+    /// The store or the sink failed, and its count of faults rose, unless it stood at the last number
+    /// of a u64.
     Failed,
     /// There was no memory.
     OutOfMemory,

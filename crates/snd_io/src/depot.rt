@@ -15,7 +15,8 @@ pub trait Depot {
     /// The name of the file that is open for writing, if one is.
     ghost writing: { Self → Option (List ℕ) };
 
-    /// How often the store has failed, up to the last number of a u64. The count never falls.
+    /// A count of faults, which never falls. A call answers `Failed` only where it rises, or stands
+    /// at the last number of a u64.
     ghost faults: { Self → ℕ };
 
     /// Puts the bytes of a file into an empty buffer, at most `limit` of them. On every answer but

@@ -1,9 +1,10 @@
-//! The outside of the engine: stores of files and text sinks, as traits with meanings, and fakes
-//! of them in memory.
+//! The outside of the engine: stores of files and sinks, as traits with meanings, and fakes of them
+//! in memory.
 //!
 //! A [`Depot`] is a store of files that gives a file whole and writes one file at a time, in
-//! pieces. A [`Sink`] takes text. Both count their faults: a call answers `Failed` only where the
-//! count rose. What they hold is told to contracts where it can be: a fake in memory tells its
+//! pieces. A [`Sink`] takes bytes: the lines of standard output, or a file that is made in memory.
+//! Both count their faults: a call answers `Failed` only where the count rose, or stands at the last
+//! number of a u64. What they hold is told to contracts where it can be: a fake in memory tells its
 //! files, a disk tells nothing, and every promise on causes holds over both.
 //!
 //! [`SureDepot`] never fails. [`MemDepot`] and [`MemSink`] fail at the calls that were listed,

@@ -35,8 +35,11 @@ impl MemDepot {
         })
     }
 
-    /// Sets a file, which is no counted call. A file that was open for writing is ended. After
-    /// `OutOfMemory` nothing has changed.
+    /// Sets a file, which is no counted call. A file that was open for writing is ended.
+    ///
+    /// # Errors
+    ///
+    /// [`OutOfMemory`] where there is no memory; nothing has changed then.
     pub fn set(&mut self, alloc: Global, name: &str, bytes: &[u8]) -> Result<(), OutOfMemory>
         ensures files { OnOk result (mem_files self.new ≡ put_file name.now bytes.now (mem_files self.old)) }
         ensures closed { OnOk result (mem_writing self.new ≡ None) }
@@ -55,8 +58,13 @@ impl MemDepot {
         self.store.file(name)
     }
 
-    /// Lets a call to come fail. Of several snags that name one call the first that was listed
-    /// counts. After `OutOfMemory` nothing has changed.
+    /// Makes the call that `snag` names fail. Calls count from the making of the store; a number that
+    /// has passed, and 0, name no call. Of several snags that name one call the first that was
+    /// listed counts.
+    ///
+    /// # Errors
+    ///
+    /// [`OutOfMemory`] where there is no memory; nothing has changed then.
     pub fn fail(&mut self, _alloc: Global, snag: Snag) -> Result<(), OutOfMemory>
         ensures ok { OnOk result (mem_snags self.new ≡ mem_snags self.old ++ snag ∷ []) }
         ensures err { OnErr result (mem_snags self.new ≡ mem_snags self.old) }

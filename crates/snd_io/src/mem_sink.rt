@@ -1,7 +1,7 @@
 ghost use Rattle.std.specs.Prelude.{◌≡◌, ◌∷◌, ◌++◌, [], OnOk, OnErr, Some, None, IfOk};
 ghost use Rattle.snd_io.specs.Faults.{CountsFaults};
 ghost use Rattle.snd_io.specs.Answers.{put_failed, Writes};
-ghost use Rattle.snd_io.specs.Snags.{next_number};
+ghost use Rattle.snd_io.specs.Snags.{next_number, bytes_taken, faults_after};
 
 use crate::snag::{Snags, first_bytes};
 use crate::{Put, Sink, Snag};
@@ -38,9 +38,13 @@ impl MemSink {
         self.text.as_slice()
     }
 
-    /// Lets a write to come fail, which still takes its first `taken` bytes, or all where there are
-    /// fewer. Of several that name one write the first that was listed counts. After `OutOfMemory`
-    /// nothing has changed.
+    /// Makes write number `call` fail, which still takes its first `taken` bytes, or all where there
+    /// are fewer. Writes count from the making of the sink; a number that has passed, and 0, name no
+    /// write. Of several that name one write the first that was listed counts.
+    ///
+    /// # Errors
+    ///
+    /// [`OutOfMemory`] where there is no memory; nothing has changed then.
     pub fn fail(&mut self, _alloc: Global, call: u32, taken: u32) -> Result<(), OutOfMemory>
         ensures ok { OnOk result (mem_sink_snags self.new ≡ mem_sink_snags self.old ++ listed_write call taken ∷ []) }
         ensures err { OnErr result (mem_sink_snags self.new ≡ mem_sink_snags self.old) }
@@ -69,6 +73,7 @@ impl Sink for MemSink {
         ensures listed { WritesAsListed result bytes.now self.old self.new }
         ensures snags { mem_sink_snags self.new ≡ mem_sink_snags self.old }
         ensures calls { mem_sink_calls self.new ≡ next_number (mem_sink_calls self.old) }
+        ensures faults { mem_sink_faults self.new ≡ faults_after (mem_sink_faults self.old) (bytes_taken (mem_sink_snags self.old) (next_number (mem_sink_calls self.old)) None) }
     {
         match self.snags.next_call() {
             None => match self.text.extend_from_slice(bytes) {

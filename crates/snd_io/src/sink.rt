@@ -5,12 +5,13 @@ ghost use Rattle.snd_io.specs.Answers.{put_failed, Writes};
 use crate::Put;
 use std::alloc::Global;
 
-/// A sink of text, such as standard output.
+/// A sink of bytes, such as standard output.
 pub trait Sink {
     /// All bytes that were written so far, where the sink tells them.
     ghost written: { Self → Option (List ℕ) };
 
-    /// How often the sink has failed, up to the last number of a u64. The count never falls.
+    /// A count of faults, which never falls. A call answers `Failed` only where it rises, or stands
+    /// at the last number of a u64.
     ghost faults: { Self → ℕ };
 
     /// Writes the bytes, or on every answer but `Done` a prefix of them.

@@ -1,7 +1,7 @@
 ghost use Rattle.std.specs.Prelude.{◌≡◌, ◌∷◌, ◌++◌, [], Some, None, is_some, is_ok, if◌then◌else◌, take};
 ghost use Rattle.snd_io.specs.Faults.{CountsFaults};
 ghost use Rattle.snd_io.specs.Answers.{IsPrefix};
-ghost use Rattle.snd_io.specs.Snags.{next_number, names_call, bytes_taken};
+ghost use Rattle.snd_io.specs.Snags.{next_number, names_call, bytes_taken, faults_after};
 
 use plain_data::OutOfMemory;
 use std::alloc::Global;
@@ -57,6 +57,7 @@ impl Snags {
         ensures list { self.new.list ≡ self.old.list }
         ensures calls { self.new.calls ≡ next_number self.old.calls }
         ensures appends { self.new.appends ≡ self.old.appends }
+        ensures faults { self.new.faults ≡ faults_after self.old.faults result }
         ensures cause { CountsFaults self.old.faults self.new.faults (is_some result) }
     {
         self.calls = self.calls.saturating_add(1);
@@ -69,6 +70,7 @@ impl Snags {
         ensures list { self.new.list ≡ self.old.list }
         ensures calls { self.new.calls ≡ next_number self.old.calls }
         ensures appends { self.new.appends ≡ next_number self.old.appends }
+        ensures faults { self.new.faults ≡ faults_after self.old.faults result }
         ensures cause { CountsFaults self.old.faults self.new.faults (is_some result) }
     {
         self.calls = self.calls.saturating_add(1);
@@ -82,6 +84,7 @@ impl Snags {
         ensures list { self.new.list ≡ self.old.list }
         ensures calls { self.new.calls ≡ self.old.calls }
         ensures appends { self.new.appends ≡ self.old.appends }
+        ensures faults { self.new.faults ≡ faults_after self.old.faults result }
         ensures cause { CountsFaults self.old.faults self.new.faults (is_some result) }
     {
         let taken = find_snag(&self.list, self.calls, append);
@@ -96,12 +99,8 @@ impl Snags {
 fn find_snag(snags: &[Snag], number: u64, append: Option<u64>) -> Option<u32>
     ensures { result ≡ bytes_taken snags.now number append }
 {
-    for snag in snags {
-        if is_named(*snag, number, append) {
-            return Some(snag.taken);
-        }
-    }
-    None
+    let snag = snags.iter().find(|snag| is_named(**snag, number, append))?;
+    Some(snag.taken)
 }
 
 fn is_named(snag: Snag, number: u64, append: Option<u64>) -> bool

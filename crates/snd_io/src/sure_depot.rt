@@ -31,8 +31,11 @@ impl SureDepot {
         })
     }
 
-    /// Sets a file. A file that was open for writing is ended. After `OutOfMemory` nothing has
-    /// changed.
+    /// Sets a file. A file that was open for writing is ended.
+    ///
+    /// # Errors
+    ///
+    /// [`OutOfMemory`] where there is no memory; nothing has changed then.
     pub fn set(&mut self, alloc: Global, name: &str, bytes: &[u8]) -> Result<(), OutOfMemory>
         ensures files { OnOk result (sure_files self.new ≡ put_file name.now bytes.now (sure_files self.old)) }
         ensures closed { OnOk result (sure_writing self.new ≡ None) }

@@ -67,7 +67,8 @@ PassesEnd bytes c = length bytes < body_end c
 
 -- The chunks from a place on. The list ends where no id and size are left, before a chunk other than `data` that passes
 -- the end of the file, or with a `data` chunk that passes it. That such a `data` chunk is taken as far as it goes is
--- this project's choice, as is that a last pad byte may be absent.
+-- lenient, and this project's choice, as is that a last pad byte may be absent, and that up to seven bytes may be left
+-- after the last chunk.
 abbrev pub ChunksFrom : Option ℕ → List ℕ → ℕ → List Chunk → Type 0
 ChunksFrom data_size bytes place [] =
     place + header_len ≤ length bytes → PassesEnd bytes (chunk_at data_size bytes place) × (u32_at bytes place ≢ data_id)

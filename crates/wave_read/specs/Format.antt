@@ -5,7 +5,8 @@
 --   12 bytes of a block    14 bits of a sample      24 SubFormat, sixteen bytes, where the format is extensible
 --
 -- The average of bytes a second and, in an extensible format, its size, its valid bits and its mask of channels are not
--- looked at; neither are the bits of a sample of G.711 and IMA. The sound doesn't need them.
+-- looked at; neither are the bits of a sample of G.711 and IMA, nor the frames of an IMA block (wSamplesPerBlock). The
+-- sound doesn't need them. This is lenient, and this project's choice.
 use Rattle.std.specs.Prelude.{ℕ, ◌*◌, ◌/◌, ◌%◌, ◌==◌, ◌&&◌, Bool, not, nat_le, nat_lt, if◌then◌else◌, nat_eq, List, [], ◌∷◌, length, drop, Result, Ok, Err}
 use Rattle.std.specs.List.{starts_with}
 use Rattle.wave_read.specs.Numbers.{u16_at, u32_at}

@@ -32,7 +32,8 @@ abbrev pub ds64_id : ℕ
 ds64_id = little_number 4 (codes "ds64")
 
 -- An RF64 file begins with a `ds64` chunk: riffSize, dataSize and sampleCount of eight bytes each and a table's length
--- of four (EBU Tech 3306). It lies whole in the file, and only dataSize is used.
+-- of four (EBU Tech 3306). It lies whole in the file, and only dataSize is used. This is lenient, and this project's
+-- choice.
 abbrev pub has_ds64 : List ℕ → Bool
 has_ds64 bytes =
     (u32_at bytes first_chunk == ds64_id) && nat_le 28 (u32_at bytes (first_chunk + 4))

@@ -52,6 +52,14 @@ fn opening(bytes: &[u8]) -> Result<Option<u64>, WaveFault>
 
 /// What a WAVE file says of its sound, or the first fault.
 ///
+/// The fields of the `Wave` are in bytes, bits, frames and frames a second, as `Wave` says. Each
+/// chunk is passed over by its size, and no memory is taken. The rules are Microsoft's for RIFF
+/// WAVE files and the extensible format, and those of EBU Tech 3306 for RF64.
+///
+/// # Errors
+///
+/// [`WaveFault`], the first in this order:
+///
 /// The file begins with `RIFF` or `RF64`, a size that is not looked at, and `WAVE` (else `NotRiff`,
 /// `NotWave`). In an RF64 file a whole `ds64` chunk of at least 28 bytes is next (else
 /// `Ds64Missing`), whose dataSize is the size of a `data` chunk that states 2^32 - 1. The first
@@ -60,10 +68,6 @@ fn opening(bytes: &[u8]) -> Result<Option<u64>, WaveFault>
 /// least four bytes counts the frames of IMA. Where `fmt ` or `data` is missing, a chunk that
 /// passes the end of the file is `ChunkPastEnd`, else the file is `NoFmt` or `NoData`. At last, for
 /// IMA, the first step index above 88 in the order of blocks and channels is `StepIndex`.
-///
-/// The fields of the `Wave` are in bytes, bits, frames and frames a second, as `Wave` says. Each
-/// chunk is passed over by its size, and no memory is taken. The rules are Microsoft's for RIFF
-/// WAVE files and the extensible format, and those of EBU Tech 3306 for RF64.
 pub fn survey(bytes: &[u8]) -> Result<Wave, WaveFault>
     ensures exact { result ≡ wave bytes.now }
     ensures lawful { IfOk result (λ w. IsWaveOf bytes.now w) }

@@ -102,8 +102,8 @@ impl Found {
         Ok(self)
     }
 
-    /// What was found says, where the list of chunks ended at `end`: past the last one, or at a
-    /// chunk that passes the end of the file.
+    /// The wave, or the fault, of a walk that ended at `end`: after the last chunk, or at a chunk
+    /// that passes the end of the file.
     pub fn conclude(self, bytes: &[u8], end: usize) -> Result<Wave, WaveFault>
         requires lawful { IsFound bytes.now self }
         requires end { end ≤ length bytes.now }

@@ -4,7 +4,7 @@ ghost use Rattle.std.specs.Prelude.{◌≡◌, ◌+◌, ◌*◌, ◌^◌, ◌<�
 ghost use Rattle.wave_read.specs.Frames.{frames_per_block, frames_in_short_block, frames_held, counted, frame_count};
 ghost use Rattle.wave_read.specs.Laws.{IsFormat};
 
-use crate::format::Format;
+use crate::format::{Format, IMA_WORD};
 use crate::kind::Kind;
 
 /// Frames of a whole IMA block of `align` bytes.
@@ -15,7 +15,7 @@ pub fn frames_per_block(align: u32, channels: u8) -> u64
     ensures { result ≡ frames_per_block align channels }
 {
     let channels = u64::from(channels);
-    2 * (u64::from(align) - 4 * channels) / channels + 1
+    2 * (u64::from(align) - u64::from(IMA_WORD) * channels) / channels + 1
 }
 
 /// Frames of a last IMA block of only `len` bytes: one in its header, and eight in each whole group
@@ -26,7 +26,7 @@ fn frames_in_short_block(len: u64, channels: u8) -> u64
     requires short { len < 2 ^ 32 }
     ensures { result ≡ frames_in_short_block len channels }
 {
-    let word = 4 * u64::from(channels);
+    let word = u64::from(IMA_WORD) * u64::from(channels);
     if len < word {
         0
     } else {

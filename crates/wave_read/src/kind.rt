@@ -1,7 +1,8 @@
 /// How the samples of a WAVE file are coded.
 #[derive(Clone, Copy, Debug, PartialEq, Eq)]
 pub enum Kind {
-    /// Linear PCM (format tag 1). A sample of 8 bits is unsigned, a longer one is signed.
+    /// Linear PCM (format tag 1). A container of one byte is unsigned, a longer one signed (fewer
+    /// bits than 8 stand in one byte too).
     Pcm,
     /// ITU-T G.711 A-law (tag 6), a byte a sample.
     Alaw,

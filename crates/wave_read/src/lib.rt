@@ -7,9 +7,8 @@
 //! The rules are those of Microsoft and IBM, "Multimedia Programming Interface and Data
 //! Specifications 1.0" (RIFF WAVE), Microsoft, "Multiple Channel Audio Data and WAVE Files" (the
 //! extensible format), EBU Tech 3306 (RF64) and Microsoft's description of IMA ADPCM in WAVE files.
-//! What is more lenient here says so where it stands: a `data` chunk that passes the end of the
-//! file is cut there, the last pad byte may be absent, a `fact` of 0 frames is ignored, and sizes
-//! and fields that the sound doesn't need are not looked at.
+//! Where this reader is more lenient than they are, or stricter, docs/FORMATS.md says so point by
+//! point.
 #![tactic(auto)]
 
 mod chunks;

@@ -3,6 +3,7 @@
 ghost use Rattle.std.specs.Prelude.{◌≡◌, ℕ, ◌+◌, ◌*◌, ◌<◌, ◌≤◌, length};
 ghost use Rattle.wave_read.specs.StepIndices.{block_count, block_fault, step_fault};
 
+use crate::format::IMA_WORD;
 use crate::frames::frames_per_block;
 use crate::kind::Kind;
 use crate::wave::Wave;
@@ -19,7 +20,7 @@ fn block_fault(bytes: &[u8], wave: &Wave, block: u64) -> Option<WaveFault>
 {
     let header = (wave.data_from + block * u64::from(wave.align)) as usize;
     for channel in 0..wave.channels {
-        let found = bytes[header + 4 * usize::from(channel) + 2];
+        let found = bytes[header + usize::from(IMA_WORD) * usize::from(channel) + 2];
         if found > MAX_STEP_INDEX {
             return Some(WaveFault::StepIndex {
                 block,

@@ -3,6 +3,7 @@ use crate::kind::Kind;
 /// What a WAVE file says of its sound, and where its samples stand.
 #[derive(Clone, Copy, Debug, PartialEq, Eq)]
 pub struct Wave {
+    /// How the samples are coded.
     pub kind: Kind,
     /// 1 to 8 channels, interleaved.
     pub channels: u8,

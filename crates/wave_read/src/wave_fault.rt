@@ -21,7 +21,8 @@ pub enum WaveFault {
     Channels { n: u16 },
     /// The frames a second aren't from 1 to 768000.
     Rate { n: u32 },
-    /// The bits of a sample and the bytes of a frame don't fit each other or the channels.
+    /// PCM: the `align` bytes of a frame are no container of 1 to 4 bytes a channel, or the `bits`
+    /// are 0 or more than it has. G.711: `align` isn't one byte a channel.
     Width { bits: u16, align: u16 },
     /// The bytes of an IMA block are no positive multiple of four bytes a channel.
     ImaAlign { align: u16 },

@@ -6,8 +6,12 @@ use plain_data::OutOfMemory;
 use std::alloc::Global;
 
 /// Appends samples of 24 bits to `out`, packed at a width of 16 or 24 bits: 2 bytes each with the
-/// floor of the sample's 256th part, or 3 bytes each, little-endian (Microsoft's RIFF WAVE
-/// description). Interleaved frames give interleaved frames. After `OutOfMemory` `out` is unchanged.
+/// sample divided by 256, rounded down, or 3 bytes each, little-endian (Microsoft's RIFF WAVE
+/// description). Interleaved frames give interleaved frames.
+///
+/// # Errors
+///
+/// [`OutOfMemory`] where there is no memory; `out` is unchanged then.
 pub fn pack(_alloc: Global, x: &[i32], width: u8, out: &mut Vec<u8>) -> Result<(), OutOfMemory>
     requires samples { All Is24 x.now }
     requires width { (width ≡ 16) ⊎ (width ≡ 24) }

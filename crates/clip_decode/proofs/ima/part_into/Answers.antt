@@ -35,8 +35,8 @@ part_into-requires-clause-there c =
     rw (c.block_at-block.ensures, c.block_frames-per_block.ensures)
     (part_there bytes w c.args.frames.start c.part_len-len.result c.requires.lawful.lies c.requires.kind part)
 
-pub part_into-requires-clause-sound : goal.part_into-requires-clause-sound
-part_into-requires-clause-sound c =
+pub part_into-requires-clause-indices : goal.part_into-requires-clause-indices
+part_into-requires-clause-indices c =
     let bytes = c.args.bytes.now in
     let w = c.args.wave.now in
     let small = (layout_of bytes w c.requires.lawful.lies c.requires.kind).header in

@@ -4,8 +4,8 @@
 # Usage: bench/ima.sh [ROUNDS]     (from anywhere; it builds crates/kernel_bench; KERNEL names a program that is built already)
 set -eu
 . "$(dirname "$0")/kernels.sh"
-build_kernel kernel_bench
+build_kernel
 build_plain ima.c
 say_machine
 # 16 blocks of 8185 frames a round
-python3 "$top/bench/kernel_times.py" "${1:-100}" sample "Rattle=$kernel ima" $plain -- mono:1:130960:1 stereo:2:261920:2
+python3 "$top/bench/kernel_times.py" "${1:-100}" sample "Rattle=$kernel blocks" $plain -- mono:1:130960:1 stereo:2:261920:2

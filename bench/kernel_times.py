@@ -2,10 +2,10 @@
 
 Usage: kernel_times.py ROUNDS UNIT NAME=COMMAND.. -- LABEL:WORDS:ROUND:PART..
 
-Each job runs `COMMAND WORDS N`. ROUND is how many units a round does, and PART the part of ROUNDS that the job takes. For each
-job it prints nanoseconds a unit, and the ratio of the first program to each other one, by the least and in brackets by the
-median of eleven runs, which are taken in turn. A time is the processor time that the rounds take more than none. It ends with
-status 1 where checksums differ."""
+Each job runs `COMMAND WORDS N`. COMMAND is a program, and may go on with words that this program alone is given. ROUND is how
+many units a round does, and PART the part of ROUNDS that the job takes. For each job it prints nanoseconds a unit, and the
+ratio of the first program to each other one, by the least and in brackets by the median of eleven runs, which are taken in
+turn. A time is the processor time that the rounds take more than none. It ends with status 1 where checksums differ."""
 import resource
 import statistics
 import subprocess

@@ -3,10 +3,10 @@ top=$(cd "$(dirname "$0")/.." && pwd)
 work=$(mktemp -d)
 trap 'rm -rf "$work"' EXIT
 
-# build_kernel CRATE: sets `kernel` to its program, built by `rt run`, or to KERNEL, a program that is built already.
+# build_kernel: sets `kernel` to the program of crates/kernel_bench, built by `rt run`, or to KERNEL, which is built already.
 build_kernel() {
-    kernel=${KERNEL:-$top/crates/$1/out/$1}
-    [ -n "${KERNEL:-}" ] || (cd "$top/crates/$1" && rt run) > "$work/rt.log" 2>&1 || { cat "$work/rt.log"; exit 1; }
+    kernel=${KERNEL:-$top/crates/kernel_bench/out/kernel_bench}
+    [ -n "${KERNEL:-}" ] || (cd "$top/crates/kernel_bench" && rt run) > "$work/rt.log" 2>&1 || { cat "$work/rt.log"; exit 1; }
 }
 
 # build_plain FILE: sets `plain` to NAME=PROGRAM for each C compiler that is there.

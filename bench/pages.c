@@ -1,4 +1,4 @@
-/* What crates/page_bench does, in C: decodes the same sound, a page of 8192 frames at a time, and prints the same
+/* What `kernel_bench pages` does, in C: decodes the same sound, a page of 8192 frames at a time, and prints the same
    number.
    Usage: pages KIND ROUNDS, where KIND is pcm16, pcm24 or alaw (stereo) or ima (mono, in blocks of 256 bytes). */
 #include "ima_step.h"

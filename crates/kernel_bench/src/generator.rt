@@ -1,7 +1,6 @@
-//! The bytes of the blocks.
+//! The numbers and bytes that the kernels run over.
 
-/// A linear congruential generator, `x' = 1664525 x + 1013904223` modulo 2^32, of which each step
-/// gives its highest eight bits.
+/// A linear congruential generator, `x' = 1664525 x + 1013904223` modulo 2^32.
 #[derive(Drop)]
 pub struct Generator {
     state: u32,
@@ -12,11 +11,17 @@ impl Generator {
         Generator { state: seed }
     }
 
-    pub fn next_byte(&mut self) -> u8 {
+    /// Takes a step, and answers the new state.
+    pub fn next_state(&mut self) -> u32 {
         self.state = self
             .state
             .wrapping_mul(1_664_525)
             .wrapping_add(1_013_904_223);
-        (self.state >> 24) as u8
+        self.state
+    }
+
+    /// Takes a step, and answers the highest eight bits of the new state.
+    pub fn next_byte(&mut self) -> u8 {
+        (self.next_state() >> 24) as u8
     }
 }

@@ -1,34 +1,52 @@
-//! Runs a kernel over blocks that a generator makes, for `bench/`, and prints a checksum of what it
+//! Runs a kernel over bytes that a generator makes, for `bench/`, and prints a checksum of what it
 //! wrote.
 //!
-//! `kernel_bench ima CHANNELS ROUNDS` decodes [`ima::BLOCKS`] blocks of IMA ADPCM in each round,
-//! mono (1) or stereo (2). With no words it runs a few rounds of each.
+//! - `kernel_bench blocks CHANNELS ROUNDS` decodes [`blocks::BLOCKS`] whole blocks of IMA ADPCM in
+//!   each round, mono (1) or stereo (2).
+//! - `kernel_bench pages KIND ROUNDS` decodes all pages of a clip of 4 MiB in each round: `pcm16`,
+//!   `pcm24` or `alaw` (stereo), or `ima` (mono).
+//! - `kernel_bench blends WAY RATE ROUNDS` blends [`blends::PAIRS`] pairs of samples in each round,
+//!   at a rate of 1 to 768000 Hz: `multiplied`, by a reciprocal, or `divided`.
+//!
+//! With no words it runs a few rounds of each.
 #![tactic(auto)]
 
+mod blends;
+mod blocks;
+mod checksum;
+mod clips;
 mod generator;
-mod ima;
+mod kind;
 mod order;
+mod pages;
 
-use order::Order;
+use order::{Order, few_rounds};
 use std::{env, io};
 
+const USAGE: &str =
+    "usage: kernel_bench [blocks CHANNELS ROUNDS | pages KIND ROUNDS | blends WAY RATE ROUNDS]";
+
 fn main(rt: HostRuntime) -> io::Result<()> {
-    let alloc = rt.alloc();
-    let mut words = env::args(&rt)?;
-    let _program = words.next();
-    match words.next() {
-        None => {
-            let mono = ima::checksum(alloc, 1, 3)?;
-            let stereo = ima::checksum(alloc, 2, 3)?;
-            println!(rt; "ima 1 channel, 3 rounds: {mono}")?;
-            println!(rt; "ima 2 channels, 3 rounds: {stereo}")
-        }
-        Some(kernel) => match Order::read(kernel, words.next(), words.next()) {
-            Some(order) => {
-                let sum = ima::checksum(alloc, order.channels, order.rounds)?;
-                println!(rt; "{sum}")
-            }
-            None => println!(rt; "usage: kernel_bench [ima CHANNELS ROUNDS], with 1 or 2 channels"),
-        },
+    let words: Vec<String> = env::args(&rt)?.skip(1).collect(rt.alloc())?;
+    if words.is_empty() {
+        return run_each(&rt);
     }
+    match Order::read(&words) {
+        Some(order) => match order.checksum(rt.alloc()) {
+            Ok(sum) => println!(rt; "{sum}"),
+            Err(error) => println!(rt; "no checksum: {error:?}"),
+        },
+        None => println!(rt; "{USAGE}"),
+    }
+}
+
+/// Runs a few rounds of each kernel.
+fn run_each(rt: &HostRuntime) -> io::Result<()> {
+    for (label, order) in few_rounds() {
+        match order.checksum(rt.alloc()) {
+            Ok(sum) => println!(rt; "{label}: {sum}")?,
+            Err(error) => println!(rt; "{label}: no checksum: {error:?}")?,
+        }
+    }
+    Ok(())
 }

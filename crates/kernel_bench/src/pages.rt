@@ -2,6 +2,7 @@
 
 ghost use Rattle.std.specs.Prelude.{◌≡◌};
 
+use crate::checksum::mixed;
 use crate::clips::make_file;
 use crate::kind::Kind;
 use clip_decode::{Clip, ClipError, Cursor, Page, fill, pages};
@@ -51,9 +52,4 @@ fn decode_pages(clip: &Clip, page: &mut Page, sum: u32) -> u32
 /// The checksum with the last sample, where there is one.
 fn with_last(sum: u32, samples: &[i32]) -> u32 {
     samples.last().map_or(sum, |sample| mixed(sum, *sample))
-}
-
-/// The checksum with one more sample.
-fn mixed(sum: u32, sample: i32) -> u32 {
-    sum.wrapping_mul(31).wrapping_add(sample.cast_unsigned())
 }

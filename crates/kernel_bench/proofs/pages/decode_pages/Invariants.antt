@@ -1,6 +1,6 @@
 use Rattle.std.proofs.Common.{◌≡◌}
 use Rattle.clip_decode.specs.Cursors.{StandsAt}
-use Rattle.page_bench.proofs.rounds.decode_pages.Given as goal
+use Rattle.kernel_bench.proofs.pages.decode_pages.Given as goal
 
 abbrev pub invariant-loop : goal.invariant-loop
 invariant-loop l = record {

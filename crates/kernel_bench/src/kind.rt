@@ -1,6 +1,6 @@
-use std::fmt;
+//! What a clip's sound is coded as.
 
-/// What a clip's sound is coded as.
+/// A kind of sound.
 #[derive(Clone, Copy)]
 pub enum Kind {
     /// Linear PCM of 16 bits, stereo.
@@ -23,16 +23,5 @@ impl Kind {
             "ima" => Some(Kind::Ima),
             _ => None,
         }
-    }
-}
-
-impl fmt::Display for Kind {
-    fn fmt<W: fmt::Write>(&self, f: &mut fmt::Formatter<W>) -> fmt::Result {
-        f.write_str(match self {
-            Kind::Pcm16 => "pcm16",
-            Kind::Pcm24 => "pcm24",
-            Kind::Alaw => "alaw",
-            Kind::Ima => "ima",
-        })
     }
 }

@@ -1,7 +1,7 @@
 -- Samples of IMA ADPCM, as numbers of 24 bits.
 --
 -- The sound is blocks of `align` bytes, of which the last one may be shorter. Each block starts anew, so that a frame
--- needs its own block alone (Microsoft, "Multiple Channel Audio Data and WAVE Files": IMA ADPCM, tag 0x11).
+-- needs its own block alone (Microsoft, "New Multimedia Data Types and Data Techniques": IMA ADPCM, tag 0x11).
 use Rattle.std.specs.Prelude.{ℕ, ◌+◌, ◌-◌, ◌*◌, ◌/◌, ◌%◌, min, ℤ, List, take, drop}
 use Rattle.ima_adpcm.specs.Blocks.{block_frames, block_sample}
 use Rattle.wave_read.specs.declared.wave.Wave.{Wave}

@@ -1,4 +1,4 @@
--- A block of the WAVE form of IMA ADPCM (Microsoft, "Multiple Channel Audio Data and WAVE Files": IMA ADPCM, tag 0x11).
+-- A block of the WAVE form of IMA ADPCM (Microsoft, "New Multimedia Data Types and Data Techniques": IMA ADPCM, tag 0x11).
 -- It begins with one header word for each channel. Then groups follow: in each, every channel in turn has one word, with
 -- its next eight codes. Frame 0 is the headers' predictors, and each code gives its channel's part of one further frame.
 use Rattle.std.specs.Prelude.{ℕ, zero, suc, ◌+◌, ◌-◌, ◌*◌, ◌/◌, ◌%◌, List, map, length, ℤ, ◌==◌, nat_lt, slice_index, if◌then◌else◌}

@@ -3,7 +3,7 @@
 //! The rule of one code, the step table and the index changes are those of the IMA Digital Audio
 //! Focus and Technical Working Groups, "Recommended Practices for Enhancing Digital Audio
 //! Compatibility in Multimedia Systems" (revision 3.00), the layout of a block that of the WAVE
-//! form of IMA ADPCM (tag 0x11) in Microsoft's "Multiple Channel Audio Data and WAVE Files". An
+//! form of IMA ADPCM (tag 0x11) in Microsoft's "New Multimedia Data Types and Data Techniques". An
 //! [`Ima`] is one channel's decoder. [`block_into`] writes the frames of a whole block, and
 //! [`part_into`] those of a part, for a reader that stops inside a block and goes on.
 //!

@@ -20,7 +20,7 @@ unfoldable pub frames_held : ℕ → ℕ → ℕ → ℕ
 frames_held align channels data_len =
     data_len / align * frames_per_block align channels + frames_in_short_block (data_len % align) channels
 
--- A `fact` chunk counts the frames of a compressed sound (Microsoft, "Multiple Channel Audio Data and WAVE Files"). A
+-- A `fact` chunk counts the frames of a compressed sound (Microsoft, "New Multimedia Data Types and Data Techniques"). A
 -- count of 0 is ignored, and one of more frames than there are: both are this project's choice.
 abbrev pub counted : Option ℕ → ℕ → ℕ
 counted None frames = frames

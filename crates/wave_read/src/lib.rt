@@ -6,7 +6,8 @@
 //!
 //! The rules are those of Microsoft and IBM, "Multimedia Programming Interface and Data
 //! Specifications 1.0" (RIFF WAVE), Microsoft, "Multiple Channel Audio Data and WAVE Files" (the
-//! extensible format), EBU Tech 3306 (RF64) and Microsoft's description of IMA ADPCM in WAVE files.
+//! extensible format), EBU Tech 3306 (RF64) and Microsoft, "New Multimedia Data Types and Data
+//! Techniques" (IMA ADPCM in WAVE files, the `fact` chunk).
 //! Where this reader is more lenient than they are, or stricter, docs/FORMATS.md says so point by
 //! point.
 #![tactic(auto)]

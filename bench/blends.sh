@@ -4,7 +4,7 @@
 #
 # Usage: bench/blends.sh [ROUNDS]     (from anywhere; it builds crates/kernel_bench; KERNEL names a program that is built already)
 set -eu
-. "$(dirname "$0")/kernels.sh"
+. "$(dirname "$0")/common.sh"
 build_kernel
 say_machine
 python3 "$top/bench/kernel_times.py" "${1:-100}" pair \

@@ -1,9 +1,9 @@
 #!/bin/sh
-# Measures the decoding of IMA ADPCM blocks against the same loop in C (ima.c), on the same blocks, mono and stereo.
+# Measures the decoding of IMA ADPCM blocks against a plain loop in C (ima.c), on the same blocks, mono and stereo.
 #
 # Usage: bench/ima.sh [ROUNDS]     (from anywhere; it builds crates/kernel_bench; KERNEL names a program that is built already)
 set -eu
-. "$(dirname "$0")/kernels.sh"
+. "$(dirname "$0")/common.sh"
 build_kernel
 build_plain ima.c
 say_machine

@@ -3,7 +3,7 @@
 #
 # Usage: bench/pages.sh [ROUNDS]     (from anywhere; it builds crates/kernel_bench; KERNEL names a program that is built already)
 set -eu
-. "$(dirname "$0")/kernels.sh"
+. "$(dirname "$0")/common.sh"
 build_kernel
 build_plain pages.c
 say_machine

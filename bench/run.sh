@@ -11,31 +11,16 @@
 set -eu
 runs=${1:-7}
 seconds=${2:-180}
-top=$(cd "$(dirname "$0")/.." && pwd)
-work=$(mktemp -d)
-trap 'rm -rf "$work"' EXIT
-
-if [ -z "${SCENETOOL:-}" ]; then
-    "$top/scenetool" --version > /dev/null
-    SCENETOOL=$top/crates/scenetool/out/scenetool
-fi
-compilers=
-for cc in gcc clang; do
-    if command -v "$cc" > /dev/null; then
-        "$cc" -std=c11 -O2 -march=x86-64-v2 "$top/bench/plain_mix.c" -o "$work/$cc"
-        compilers="$compilers $cc"
-    else
-        echo "skipped: no $cc"
-    fi
-done
+. "$(dirname "$0")/common.sh"
+build_scenetool
+build_plain plain_mix.c
 [ -n "$compilers" ] || { echo "nothing to compare with: no C compiler"; exit 0; }
 "${compilers##* }" -std=c11 -O2 "$top/bench/used.c" -o "$work/used"
 for tool in sox valgrind; do
     command -v "$tool" > /dev/null || echo "skipped: no $tool"
 done
 
-echo "machine: $(sed -n 's/^model name[^:]*: //p' /proc/cpuinfo | head -n 1), $(nproc) cores, $(date -u +%Y-%m-%d)," \
-    "load$(uptime | sed 's/.*average://')"
+say_machine
 cd "$work"
 "$SCENETOOL" gen 1 gen > /dev/null
 python3 "$top/bench/sounds.py" . "$seconds"

@@ -1,7 +1,7 @@
 #!/bin/sh
 # Compares the tables of crates/g711 with what SoX makes of all 256 codes of each law.
 #
-# Usage: interop/g711_tables.sh       (at the top of the repository)
+# Usage: interop/g711_tables.sh       (from anywhere)
 #
 # Says what it skipped where SoX is not installed, and ends with status 1 where an entry differs.
 set -eu

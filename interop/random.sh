@@ -1,5 +1,5 @@
 #!/bin/sh
-# Compares scenetool on random input with readings of our own, made of nothing of its:
+# Compares scenetool on random input with readings that share no code with it:
 #   `info` on WAVE files, most of them with a fault, with a reading in Python (random_waves.py);
 #   `mix` on scripts, most of them with a fault, with a reading in Python (random_scripts.py);
 #   `mix` on scenes of every kind of sound file, node and edit, with bench/plain_mix.c, a plain C program for the same job:
@@ -10,15 +10,10 @@
 # Builds scenetool where it is stale, and says what it skipped. An input is the same by its number each time; the first one
 # that differs is named, and the status is 1.
 set -eu
-top=$(cd "$(dirname "$0")/.." && pwd)
+. "$(dirname "$0")/../bench/common.sh"
+build_scenetool
 count=${1:-1000}
 first=${2:-1}
-work=$(mktemp -d)
-trap 'rm -rf "$work"' EXIT
-if [ -z "${SCENETOOL:-}" ]; then
-    "$top/scenetool" --version > /dev/null
-    SCENETOOL=$top/crates/scenetool/out/scenetool
-fi
 cd "$work"
 python3 "$top/interop/random_waves.py" "$SCENETOOL" "$count" "$first"
 if python3 -c 'import tomllib' 2> /dev/null; then

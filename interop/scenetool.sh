@@ -117,7 +117,7 @@ expect 3 'depot failed' gen 1 no-such-directory/g
 echo "gen: the files are those of a generator in Python, and the scene is rendered"
 
 if ! command -v sox > /dev/null; then
-    echo "skipped: no sox, so no file of its was rendered (apt-get install sox)"
+    echo "skipped: no sox, so no file that SoX wrote was rendered (apt-get install sox)"
     exit 0
 fi
 sox -n -r 44100 -b 16 -c 1 tone.wav synth 3 sine 440 vol 0.5

@@ -1,32 +1,15 @@
 //! Clips of small files, and their samples worked out by hand from the rules of the format.
 
+use crate::sound_files::{PCM_12, PCM_16, PCM_24, RIFF, file};
 use clip_decode::{Clip, ClipError, pages};
 use std::alloc::{AllocError, Global};
 use std::test::Fail;
 use wave_read::{Kind, Wave, WaveFault};
 
-/// `RIFF`, a size that is not looked at, and `WAVE`.
-const RIFF: &[u8] = b"RIFF\0\0\0\0WAVE";
-
-/// Mono PCM of 8, 16 and 32 bits, and of 12 bits in containers of 16.
+/// Mono PCM of 8 and of 32 bits.
 const PCM_8: &[u8] = b"fmt \x10\0\0\0\x01\0\x01\0\x40\x1f\0\0\x40\x1f\0\0\x01\0\x08\0";
 
-const PCM_16: &[u8] = b"fmt \x10\0\0\0\x01\0\x01\0\x40\x1f\0\0\x80\x3e\0\0\x02\0\x10\0";
-
-const PCM_12: &[u8] = b"fmt \x10\0\0\0\x01\0\x01\0\x40\x1f\0\0\x80\x3e\0\0\x02\0\x0c\0";
-
 const PCM_32: &[u8] = b"fmt \x10\0\0\0\x01\0\x01\0\x40\x1f\0\0\0\x7d\0\0\x04\0 \0";
-
-/// Extensible stereo PCM of 24 bits.
-const PCM_24: &[u8] =
-    b"fmt \x28\0\0\0\xfe\xff\x02\0\x40\x1f\0\0\x80\xbb\0\0\x06\0\x18\0\x16\0\x18\0\x03\0\0\0\x01\0\0\0\0\0\x10\0\x80\0\0\xaa\08\x9bq";
-
-fn file(alloc: Global, format: &[u8], sound: &[u8]) -> Result<Vec<u8>, AllocError> {
-    let mut file = Vec::from_slice(alloc, RIFF)?;
-    file.extend_from_slice(format)?;
-    file.extend_from_slice(sound)?;
-    Ok(file)
-}
 
 /// The interleaved samples of a clip of PCM, and none of another one.
 fn samples(alloc: Global, clip: &Clip) -> Result<Vec<i32>, AllocError> {
@@ -79,7 +62,7 @@ fn decodes_containers_of_each_size(rt: HostRuntime) -> Result<(), Fail> {
         ),
     ];
     for (format, sound, want) in cases {
-        let bytes = file(rt.alloc(), format, sound)?;
+        let bytes = file(rt.alloc(), RIFF, &[format, sound])?;
         let clip = Clip::new(rt.alloc(), bytes.clone()?);
         assert!(rt; clip.is_ok(), "at {sound:?}");
         if let Ok(clip) = clip {
@@ -123,7 +106,7 @@ fn counts_pages_and_hands_faults_on(rt: HostRuntime) -> Result<(), Fail> {
         (b"", b"data\0\0\0\0", WaveFault::NoFmt),
     ];
     for (format, sound, want) in refused {
-        let answer = Clip::new(rt.alloc(), file(rt.alloc(), format, sound)?);
+        let answer = Clip::new(rt.alloc(), file(rt.alloc(), RIFF, &[format, sound])?);
         assert_eq!(rt; answer.err(), Some(ClipError::Fault(*want)));
     }
     let empty = Clip::new(rt.alloc(), Vec::new(rt.alloc()));

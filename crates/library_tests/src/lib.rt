@@ -1,14 +1,17 @@
-//! The tests of the libraries below the commands: worked examples, tables of inputs, and each
-//! public call once on its happy path, by itself or through a call above it. The laws, which do
-//! nothing, are left out. Reading scenes from scripts has a crate of tests of its own.
+//! The tests of the libraries below `mix_model`, but for `snd_io`: worked examples, tables of
+//! inputs, and most public calls once on their happy path, by themselves or through a call above
+//! them. The laws, which do nothing, are left out. Reading scenes from scripts has a crate of tests of
+//! its own.
 #![tactic(auto)]
 
 #[cfg(test)]
 mod clips;
 #[cfg(test)]
+mod converted_clips;
+#[cfg(test)]
 mod g711_codes;
 #[cfg(test)]
-mod heard_clips;
+mod gains;
 #[cfg(test)]
 mod ima_blocks;
 #[cfg(test)]

@@ -256,7 +256,10 @@ fn bus_rows_wire_the_opening_plan(rt: HostRuntime) -> Result<(), Fail> {
 fn refuses_edits_of_a_wired_plan(rt: HostRuntime) -> Result<(), Fail> {
     // Group 0 is attached to group 1, and group 1 to nothing; group 2 is apart.
     let kinds = [NodeKind::Group; 3];
-    let rows = [row(0, 0, Some(1), UNITY_GAIN), row(2, 0, Some(3), UNITY_GAIN)];
+    let rows = [
+        row(0, 0, Some(1), UNITY_GAIN),
+        row(2, 0, Some(3), UNITY_GAIN),
+    ];
     let cases = [
         (attach(1, 0, 0), Reply::Cycle { node: 0 }),
         (Edit::Detach { node: 1, out: 0 }, Reply::NotAttached),

@@ -1,6 +1,5 @@
-//! Gains, points, blends and frames that were worked out by hand.
+//! Points, blends and frames that were worked out by hand.
 
-use mix_fixed::{Gain, sat24, scale};
 use rate_fit::{Fit, Interpolator, Point, Walker, blend, to_channels};
 use std::process::Abort;
 
@@ -94,14 +93,10 @@ fn between(rt: &impl Abort, a: i32, b: i32, weight: u32, output_rate: u32) -> (i
     assert!(rt; weight < output_rate);
     assert!(rt; output_rate <= 768_000);
     let interpolator = Interpolator::new(output_rate);
-    (blend(a, b, weight, output_rate), interpolator.blend(a, b, weight))
-}
-
-fn scaled(rt: &impl Abort, x: i32, gain: u32) -> i32 {
-    assert!(rt; -8_388_608 <= x);
-    assert!(rt; x <= 8_388_607);
-    let gain = Gain::new(gain).expect(rt, "a gain");
-    scale(x, gain)
+    (
+        blend(a, b, weight, output_rate),
+        interpolator.blend(a, b, weight),
+    )
 }
 
 /// Walks from frame `from` to the end, and on.
@@ -120,7 +115,10 @@ fn walk(rt: &impl Abort, fit: &Fit, from: u64) {
 fn rates_have_the_lengths_points_and_blends_that_were_worked_out(rt: HostRuntime) {
     for (input_rate, output_rate, frames, len) in LENGTHS {
         let fit = fit(&rt, input_rate, output_rate, frames);
-        assert_eq!(rt; (fit.input_rate(), fit.output_rate()), (input_rate, output_rate));
+        assert_eq!(rt;
+            (fit.input_rate(), fit.output_rate()),
+            (input_rate, output_rate)
+        );
         assert_eq!(rt; fit.len(), len, "{input_rate} to {output_rate}");
     }
     for (input_rate, output_rate, frames, n, first, weight) in POINTS {
@@ -144,25 +142,7 @@ fn rates_have_the_lengths_points_and_blends_that_were_worked_out(rt: HostRuntime
 }
 
 #[test]
-fn gains_and_frames_round_down_and_keep_their_limits(rt: HostRuntime) {
-    assert_eq!(rt;
-        Gain::new(1_048_576).map(|gain| gain.get()),
-        Some(1_048_576)
-    );
-    assert_eq!(rt; Gain::new(1_048_577), None);
-    for (x, gain, want) in [
-        (8_388_607, 1_048_576, 134_217_712),
-        (-8_388_608, 1_048_576, -134_217_728),
-        (-1, 65_536, -1),
-        (-1, 1, -1),
-        (1, 65_535, 0),
-        (5, 0, 0),
-    ] {
-        assert_eq!(rt; scaled(&rt, x, gain), want, "{x} {gain}");
-    }
-    for (x, want) in [(8_388_608, 8_388_607), (i64::MIN, -8_388_608), (-7, -7)] {
-        assert_eq!(rt; sat24(x), want, "{x}");
-    }
+fn frames_are_brought_to_one_or_two_channels(rt: HostRuntime) {
     let mut two = [0; 2];
     let mut one = [0; 1];
     to_channels(&[1, -2, 5], &mut two);

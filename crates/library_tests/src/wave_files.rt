@@ -1,5 +1,6 @@
 //! Files against what the WAVE reader says of them, worked out by hand from the rules of the format.
 
+use crate::sound_files::{PCM_12, PCM_16, PCM_24, RIFF, file};
 use std::alloc::{AllocError, Global};
 use std::process::Abort;
 use std::test::Fail;
@@ -9,9 +10,7 @@ use wave_read::WaveFault::{
 };
 use wave_read::{Kind, Wave, WaveFault, survey};
 
-/// `RIFF` or `RF64`, a size that is not looked at, and `WAVE`: 12 bytes.
-const RIFF: &[u8] = b"RIFF\0\0\0\0WAVE";
-
+/// `RF64`, a size that is not looked at, and `WAVE`: 12 bytes.
 const RF64: &[u8] = b"RF64\xff\xff\xff\xffWAVE";
 
 /// `ds64` chunks of 36 bytes, with a dataSize of 4, of 2^63 and of 2^64 - 1.
@@ -22,11 +21,6 @@ const DS64_HALF: &[u8] =
 
 const DS64_ALL: &[u8] =
     b"ds64\x1c\0\0\0\0\0\0\0\0\0\0\0\xff\xff\xff\xff\xff\xff\xff\xff\0\0\0\0\0\0\0\0\0\0\0\0";
-
-/// Mono PCM of 16 bits, and of 12 bits in containers of 16: 24 bytes each.
-const PCM_16: &[u8] = b"fmt \x10\0\0\0\x01\0\x01\0\x40\x1f\0\0\x80\x3e\0\0\x02\0\x10\0";
-
-const PCM_12: &[u8] = b"fmt \x10\0\0\0\x01\0\x01\0\x40\x1f\0\0\x80\x3e\0\0\x02\0\x0c\0";
 
 /// Eight channels of 32 bits, 768000 frames a second, with no average of bytes a second.
 const PCM_32: &[u8] = b"fmt \x10\0\0\0\x01\0\x08\0\0\xb8\x0b\0\0\0\0\0 \0 \0";
@@ -42,10 +36,7 @@ const IMA_MONO: &[u8] = b"fmt \x14\0\0\0\x11\0\x01\0\x40\x1f\0\0 \x1c\0\0\x08\0\
 const IMA_STEREO: &[u8] =
     b"fmt \x14\0\0\0\x11\0\x02\0\x40\x1f\0\0\x8e7\0\0\x10\0\x04\0\x02\0\x09\0";
 
-/// Extensible formats of 48 bytes: stereo PCM of 24 bits, and mono A-law.
-const PCM_24: &[u8] =
-    b"fmt \x28\0\0\0\xfe\xff\x02\0\x40\x1f\0\0\x80\xbb\0\0\x06\0\x18\0\x16\0\x18\0\x03\0\0\0\x01\0\0\0\0\0\x10\0\x80\0\0\xaa\08\x9bq";
-
+/// An extensible format of mono A-law, 48 bytes.
 const LONG_ALAW: &[u8] =
     b"fmt \x28\0\0\0\xfe\xff\x01\0\x40\x1f\0\0\x40\x1f\0\0\x01\0\x08\0\x16\0\x08\0\x03\0\0\0\x06\0\0\0\0\0\x10\0\x80\0\0\xaa\08\x9bq";
 
@@ -107,20 +98,12 @@ const LIST_3: &[u8] = b"LIST\x03\0\0\0abc\0";
 
 const LIST_4: &[u8] = b"LIST\x04\0\0\0abcd";
 
-const LIST_28: &[u8] = b"LIST\x14\0\0\0abcdefghijklmnopqrst";
+const LIST_20: &[u8] = b"LIST\x14\0\0\0abcdefghijklmnopqrst";
 
 const LIST_TO_END: &[u8] = b"LIST\xff\xff\xff\xff";
 
 /// What follows the head of a file, and what the file says.
 type Case<'a, T> = (&'a [&'a [u8]], T);
-
-fn file(alloc: Global, head: &[u8], parts: &[&[u8]]) -> Result<Vec<u8>, AllocError> {
-    let mut file = Vec::from_slice(alloc, head)?;
-    for part in parts {
-        file.extend_from_slice(part)?;
-    }
-    Ok(file)
-}
 
 fn accept(rt: &impl Abort, alloc: Global, head: &[u8], sounds: &[Case<Wave>]) -> Result<(), Fail> {
     for (parts, want) in sounds {
@@ -269,10 +252,10 @@ fn refuses_what_is_no_wave_file(rt: HostRuntime) -> Result<(), Fail> {
         (&[], Ds64Missing),
         (&[PCM_16, DATA_4], Ds64Missing),
         (&[LIST_4, DS64_4, PCM_16, DATA_4], Ds64Missing),
-        (&[b"ds64\x1b\0\0\0", LIST_28, PCM_16, DATA_4], Ds64Missing),
+        (&[b"ds64\x1b\0\0\0", LIST_20, PCM_16, DATA_4], Ds64Missing),
         (&[b"ds64\x1c\0\0\0", LIST_3, LIST_3, b"abc"], Ds64Missing),
         (
-            &[b"ds64\xff\xff\xff\xff", LIST_28, PCM_16, DATA_4],
+            &[b"ds64\xff\xff\xff\xff", LIST_20, PCM_16, DATA_4],
             Ds64Missing,
         ),
         (&[DS64_4, LIST_TO_END], ChunkPastEnd { at: 48 }),

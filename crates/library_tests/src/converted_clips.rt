@@ -1,4 +1,4 @@
-//! What a scene hears of small files, worked out by hand.
+//! Small files at the rate and in the channels of a scene, worked out by hand.
 
 use crate::sound_files::{Format, wave_file};
 use clip_decode::Clip;
@@ -9,7 +9,7 @@ use std::process::Abort;
 use std::test::Fail;
 
 /// A clip's channels, its rate and its samples of 24 bits, interleaved; a scene's rate and its
-/// channels; and the samples that it hears.
+/// channels; and the samples that the clip has there.
 type Heard = (u8, u32, &'static [i32], u32, u8, &'static [i32]);
 
 const HEARD: &[Heard] = &[

@@ -1,4 +1,4 @@
-/* The loop that crates/ima_adpcm has, in C: decodes the same blocks as `kernel_bench blocks` and prints the same number.
+/* Decodes the same blocks as `kernel_bench blocks` and prints the same number.
    Usage: ima CHANNELS ROUNDS. */
 #include "ima_step.h"
 #include <stdint.h>

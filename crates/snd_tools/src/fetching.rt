@@ -60,10 +60,8 @@ pub(crate) fn read_scene<D: Depot>(
     ensures cause { CountsFaults (D.faults depot.old) (D.faults depot.new) (stopped_by_depot result) }
     ensures stop { can_stop result ≡ true }
 {
-    match fetch_file(alloc, depot, name, MAX_SCRIPT_BYTES) {
-        Ok(text) => scene_of(alloc, &text),
-        Err(status) => Err(status),
-    }
+    let text = fetch_file(alloc, depot, name, MAX_SCRIPT_BYTES)?;
+    scene_of(alloc, &text)
 }
 
 /// The scene of a script.
@@ -99,14 +97,10 @@ pub(crate) fn read_sounds<D: Depot>(
     let mut total = 0;
     for (number, resource) in resources.iter().enumerate() {
         let file = resource.file.as_str();
-        match read_sound(alloc, depot, number as u32, total, file) {
-            Ok(clip) => {
-                total += clip.bytes().len() as u64;
-                if clips.push(clip).is_err() {
-                    return Err(Status::OutOfMemory);
-                }
-            }
-            Err(status) => return Err(status),
+        let clip = read_sound(alloc, depot, number as u32, total, file)?;
+        total += clip.bytes().len() as u64;
+        if clips.push(clip).is_err() {
+            return Err(Status::OutOfMemory);
         }
     }
     Ok(clips)
@@ -131,10 +125,8 @@ fn read_sound<D: Depot>(
     ensures cause { CountsFaults (D.faults depot.old) (D.faults depot.new) (stopped_by_depot result) }
     ensures stop { can_stop result ≡ true }
 {
-    match fetch_file(alloc, depot, name, MAX_SOUND_BYTES) {
-        Ok(bytes) => clip_of(alloc, number, total, name, bytes),
-        Err(status) => Err(status),
-    }
+    let bytes = fetch_file(alloc, depot, name, MAX_SOUND_BYTES)?;
+    clip_of(alloc, number, total, name, bytes)
 }
 
 /// The clip of a sound file, or its refusal.

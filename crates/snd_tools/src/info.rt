@@ -38,10 +38,7 @@ fn wave_line(alloc: Global, bytes: &[u8]) -> Result<String, Status>
         Ok(wave) => wave,
         Err(fault) => return Err(Status::File { resource: 0, fault }),
     };
-    match info_line(alloc, wave) {
-        Ok(line) => Ok(line),
-        Err(_) => Err(Status::OutOfMemory),
-    }
+    info_line(alloc, wave).map_err(|_| Status::OutOfMemory)
 }
 
 /// The line of a sound.

@@ -48,16 +48,7 @@ fn prepare<D: Depot>(alloc: Global, depot: &mut D, scene: &str) -> Result<Render
     ensures cause { CountsFaults (D.faults depot.old) (D.faults depot.new) (stopped_by_depot result) }
     ensures stop { can_stop result ≡ true }
 {
-    let scene = match read_scene(alloc, depot, scene) {
-        Ok(scene) => scene,
-        Err(status) => return Err(status),
-    };
-    let clips = match read_sounds(alloc, depot, scene.resources.as_slice()) {
-        Ok(clips) => clips,
-        Err(status) => return Err(status),
-    };
-    match render(alloc, &scene, &clips) {
-        Ok(rendering) => Ok(rendering),
-        Err(_) => Err(Status::OutOfMemory),
-    }
+    let scene = read_scene(alloc, depot, scene)?;
+    let clips = read_sounds(alloc, depot, scene.resources.as_slice())?;
+    render(alloc, &scene, &clips).map_err(|_| Status::OutOfMemory)
 }

@@ -72,15 +72,7 @@ fn the_scene_of_a_number_is_nine_files(rt: HostRuntime) -> Result<(), Fail> {
 fn its_mix_is_the_same_each_time(rt: HostRuntime) -> Result<(), Fail> {
     let alloc = rt.alloc();
     let mut depot = SureDepot::new(alloc)?;
-    assert!(rt;
-        ends(
-            alloc,
-            &mut depot,
-            &["gen", "1", "a/g"],
-            0,
-            "files 9\n"
-        )?
-    );
+    assert!(rt; ends(alloc, &mut depot, &["gen", "1", "a/g"], 0, "files 9\n")?);
     let (status, line) = run(alloc, &mut depot, &["mix", "a/g.toml", "out.wav"])?;
     assert_eq!(rt; status.code(), 0);
     assert!(rt; depot.file("out.wav").map(|bytes| bytes.len()) == Some(2_880_044));

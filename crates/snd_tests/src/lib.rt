@@ -17,10 +17,12 @@ mod plain_mixes;
 #[cfg(test)]
 mod programs;
 #[cfg(test)]
-mod real_edge;
-#[cfg(test)]
 mod scenes;
 #[cfg(test)]
 mod script_faults;
 #[cfg(test)]
 mod sounds;
+#[cfg(test)]
+mod system_files;
+#[cfg(test)]
+mod usages;

@@ -57,7 +57,10 @@ fn a_sink_that_fails_ends_the_plain_mix(rt: HostRuntime) -> Result<(), Fail> {
     let a = sound(alloc, 1, 8000, &[10, 20, 30, 40])?;
     let mut sink = MemSink::new(alloc)?;
     sink.fail(alloc, 1, 10)?;
-    assert_eq!(rt; mix_into(&rt, alloc, a, &mut sink)?, Err(MixFault::SinkFault));
+    assert_eq!(rt;
+        mix_into(&rt, alloc, a, &mut sink)?,
+        Err(MixFault::SinkFault)
+    );
     assert_eq!(rt; sink.bytes(), b"RIFF\x2e\0\0\0WA".as_slice());
     Ok(())
 }

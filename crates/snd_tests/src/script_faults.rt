@@ -128,7 +128,13 @@ const HEADS: &[(&str, &str)] = &[
 /// Whether `mix` of the script ends with status 6 and this line, and OUT isn't created.
 fn is_refused(alloc: Global, script: &str, line: &str) -> Result<bool, OutOfMemory> {
     let mut depot = depot_of(alloc, script, &[])?;
-    let told = ends(alloc, &mut depot, &["mix", "scene.toml", "out.wav"], 6, line)?;
+    let told = ends(
+        alloc,
+        &mut depot,
+        &["mix", "scene.toml", "out.wav"],
+        6,
+        line,
+    )?;
     Ok(told && depot.file("out.wav").is_none())
 }
 

@@ -1,5 +1,5 @@
-//! The commands of the programs, from words to a status, over any store of files and any sink of
-//! text; and the real edge, files on disk and standard output.
+//! The commands of `scenetool`, from words to a status, over any store of files and any sink of
+//! text. [`DiskDepot`] and [`TextOut`] are the system's files and streams.
 #![tactic(auto)]
 
 mod command;

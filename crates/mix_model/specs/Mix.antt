@@ -64,7 +64,7 @@ cursor_before clips s n (suc t) =
 abbrev pub cursor : List SceneClipData → SceneData → ℕ → ℕ → ℕ
 cursor clips s n t = fold (sought n (node_frames clips s n)) (cursor_before clips s n t) (edits_at s.edits t)
 
--- what frame t of a scene hangs on
+-- what frame t of a scene depends on
 abbrev pub moment : List SceneClipData → SceneData → ℕ → Moment
 moment clips s t = record { plan = plan s t; time = t; clips = clips; cursor = λ n. cursor clips s n t }
 

@@ -21,7 +21,7 @@ data_of s frames = packed s.width (interleaved frames)
 abbrev pub summary_of : SceneData → List (List ℤ) → Summary
 summary_of s frames = summary (interleaved frames) (data_of s frames)
 
--- the frames before that of the player, and what is told of them
+-- the frames before that of the player
 abbrev pub frames_before : SceneData → Blocks → List (List ℤ)
 frames_before s b = frames_from b.player.clips.items s 0 b.player.time
 

@@ -12,7 +12,7 @@ use Rattle.scene_model.specs.PlanData.{PlanData}
 use Rattle.mix_model.specs.Pulled.{node, endpoint, is_active}
 use Rattle.mix_model.specs.Turns.{turns}
 
--- all that a frame hangs on: the plan, the number of the frame, the clips of the resources, and the cursor of each sound
+-- all that a frame depends on: the plan, the number of the frame, the clips of the resources, and the cursor of each sound
 pub record Moment : Type 0 where
   pub plan : PlanData
   pub time : ℕ

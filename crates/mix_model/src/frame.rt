@@ -37,7 +37,7 @@ pub(crate) fn inputs(
     }
 }
 
-/// Adds to the sum of the node that a bus is attached to what the bus hands on.
+/// Adds a bus's share to the sum of the node to which it is attached.
 fn pour(
     nodes: &[NodeState],
     clips: &[SceneClip],

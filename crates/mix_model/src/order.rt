@@ -1,4 +1,4 @@
-//! An order of buses in which each input is whole before it is handed on.
+//! A topological order of the buses: each input is whole before it is passed on.
 
 ghost use Rattle.std.specs.Prelude.{◌≡◌, ◌<◌, true, false, ◌≤◌, ℕ, length, All, IfOk, sum};
 ghost use Rattle.std.specs.List.Sorted.{IsPermutation};
@@ -15,8 +15,8 @@ use std::alloc::Global;
 /// One more than the greatest number of nodes of a plan, for the endpoint.
 pub(crate) const MAX_INPUTS: usize = 129;
 
-/// The buses of a plan in an order in which no bus leads to its own node or to that of a bus before
-/// it: by the greatest number of buses on a way to their node.
+/// The buses of a plan in a topological order, in which no bus leads to its own node or to that of a
+/// bus before it: by the length of the longest path to their node.
 pub(crate) fn in_order(alloc: Global, buses: &[Bus]) -> Result<Vec<Bus>, OutOfMemory>
     requires buses { All (IsBusOf limits.most_nodes) buses.now }
     requires no_cycle { HasNoCycle buses.now }
@@ -30,7 +30,7 @@ pub(crate) fn in_order(alloc: Global, buses: &[Bus]) -> Result<Vec<Bus>, OutOfMe
     Ok(wires)
 }
 
-/// For each node the greatest number of buses on a way to it.
+/// For each node the length of the longest path to it.
 fn depths(buses: &[Bus]) -> [u32; MAX_INPUTS]
     requires buses { All (IsBusOf limits.most_nodes) buses.now }
     requires no_cycle { HasNoCycle buses.now }
@@ -54,8 +54,8 @@ fn settle(buses: &[Bus], depths: &mut [u32])
     while deepen(buses, depths) {}
 }
 
-/// Brings the target of each bus deeper than its node, where it isn't yet. Whether there was one to
-/// bring.
+/// Brings the target of each bus deeper than its node, where it isn't yet. Answers whether one was
+/// changed.
 fn deepen(buses: &[Bus], depths: &mut [u32]) -> bool
     requires buses { All (IsBusOf limits.most_nodes) buses.now }
     requires most { length buses.now ≤ limits.most_buses }
@@ -74,7 +74,8 @@ fn deepen(buses: &[Bus], depths: &mut [u32]) -> bool
     is_deeper
 }
 
-/// Brings the target of a bus deeper than its node. Whether it wasn't yet.
+/// Brings the target of a bus deeper than its node, where it isn't yet. Answers whether it was
+/// changed.
 fn deepen_target(bus: &Bus, depths: &mut [u32]) -> bool
     requires bus { IsBusOf limits.most_nodes bus.now }
     requires depths { length depths.old ≡ 129 }

@@ -25,7 +25,8 @@ use wave_write::header;
 /// answer is the summary of the frames.
 ///
 /// `clips` are those of the scene's resources, in their order, each of at most 67,108,864 bytes.
-/// Every node is computed once a frame, in an order that is found anew only after edits.
+/// Each attached bus is taken once a frame and channel, in a topological order that is found anew
+/// only after edits.
 ///
 /// # Errors
 ///

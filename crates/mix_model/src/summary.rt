@@ -1,7 +1,7 @@
 ghost use Rattle.std.specs.Prelude.{◌≡◌, ◌%◌, ◌+◌, ◌^◌, ℕ, ℤ, List, [], ◌++◌, sum, fold, max, unsigned_abs};
 ghost use Rattle.mix_model.specs.Summary as spec;
 
-/// A rendering in two numbers: two that differ in them differ, and the peak tells how loud it is.
+/// The peak and a checksum of a rendering. Renderings with different summaries are different.
 #[derive(Clone, Copy, Debug, PartialEq, Eq)]
 pub struct Summary {
     /// The greatest magnitude of the samples in 24 bits, 0 to 8388608, before they are packed.

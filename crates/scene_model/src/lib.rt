@@ -4,7 +4,8 @@
 //! A [`Scene`] is made once, from a script, and read by all that renders it. It keeps its limits by
 //! its type: whoever holds one knows that its rate is at most [`MAX_RATE`], that each sound names a
 //! resource that is there, and that each row names a node that is there. So a reader of scenes
-//! tests nothing again. Who writes the literal `Scene { .. }` owes these facts.
+//! tests nothing again. A literal `Scene { .. }` that might break one of them is refused when the
+//! crate is built.
 //!
 //! A [`Plan`] is how the scene is wired at some moment: it begins as [`Plan::opening`] says, and
 //! [`apply`] makes an edit in it or refuses it. No node of a plan is ever reached from itself along

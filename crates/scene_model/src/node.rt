@@ -46,6 +46,7 @@ pub struct Node {
     pub started: bool,
     /// The first frame at which it may be active, 0 to 16777216.
     pub from: u32,
-    /// The first frame after `from` at which it is no longer active, 0 to 16777216.
+    /// The frame from which on it is no longer active, 0 to 16777216. It is never active where this
+    /// is at most `from`.
     pub until: u32,
 }

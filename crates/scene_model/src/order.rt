@@ -21,7 +21,7 @@ pub struct NumberedEdit {
 ///
 /// # Errors
 ///
-/// Want of memory.
+/// [`OutOfMemory`] where there is no memory; nothing has changed then.
 pub fn edits_in_order(alloc: Global, rows: &[EditRow]) -> Result<Rows<NumberedEdit>, OutOfMemory>
     requires { length rows.now ≤ limits.most_edits }
     ensures { IfOk result (λ edits. edits ≡ spec.in_order rows.now) }

@@ -7,10 +7,10 @@ use Rattle.scene_model.specs.declared.edit.EditRow.{EditRow}
 use Rattle.scene_model.specs.SceneData.{SceneData}
 use Rattle.scene_model.specs.Times.{edits_at, plan}
 use Rattle.mix_model.specs.Pulled.{pulled}
-use Rattle.mix_model.specs.Signals.{Moment}
+use Rattle.mix_model.specs.Signals.{FrameState}
 
--- the moment with these buses in its plan
-abbrev pub with_buses : Moment → List Bus → Moment
+-- the state with these buses in its plan
+abbrev pub with_buses : FrameState → List Bus → FrameState
 with_buses m buses = record m { plan = record m.plan { buses = buses } }
 
 -- no bus is attached to node n

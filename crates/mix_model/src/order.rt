@@ -5,7 +5,7 @@ ghost use Rattle.std.specs.List.Sorted.{IsPermutation};
 ghost use Rattle.scene_model.specs.IsPlan.{IsBusOf};
 ghost use Rattle.scene_model.specs.Limits as limits;
 ghost use Rattle.scene_model.specs.Reach.{HasNoCycle};
-ghost use Rattle.mix_model.specs.Wires.{IsOrdered};
+ghost use Rattle.mix_model.specs.OrderedBuses.{IsOrdered};
 ghost use Rattle.mix_model.specs.Depths.{depth_at, AreAtMost, AllRise, Rises, StaysBelow, IsDeeper};
 
 use plain_data::OutOfMemory;
@@ -17,17 +17,17 @@ pub(crate) const MAX_INPUTS: usize = 129;
 
 /// The buses of a plan in a topological order, in which no bus leads to its own node or to that of a
 /// bus before it: by the length of the longest path to their node.
-pub(crate) fn in_order(alloc: Global, buses: &[Bus]) -> Result<Vec<Bus>, OutOfMemory>
+pub(crate) fn topological_order(alloc: Global, buses: &[Bus]) -> Result<Vec<Bus>, OutOfMemory>
     requires buses { All (IsBusOf limits.most_nodes) buses.now }
     requires no_cycle { HasNoCycle buses.now }
     requires most { length buses.now ≤ limits.most_buses }
-    ensures moved { IfOk result (λ wires. IsPermutation buses.now wires.items) }
-    ensures ordered { IfOk result (λ wires. IsOrdered wires.items) }
+    ensures permutation { IfOk result (λ ordered_buses. IsPermutation buses.now ordered_buses.items) }
+    ensures ordered { IfOk result (λ ordered_buses. IsOrdered ordered_buses.items) }
 {
     let depths = depths(buses);
-    let mut wires = Vec::from_slice(alloc, buses)?;
-    wires.sort_unstable_by_key(|bus| depth(&depths, bus.node));
-    Ok(wires)
+    let mut ordered_buses = Vec::from_slice(alloc, buses)?;
+    ordered_buses.sort_unstable_by_key(|bus| depth(&depths, bus.node));
+    Ok(ordered_buses)
 }
 
 /// For each node the length of the longest path to it.

@@ -1,3 +1,4 @@
+pub mod AllEdits
 pub mod Kept
 pub mod Marking
 pub mod NoCycle

@@ -9,6 +9,7 @@ use Rattle.std.proofs.lemmas.List.Elements.{filter-append}
 use Rattle.std.proofs.lemmas.List.{length-map}
 use Rattle.std.proofs.lemmas.List.Folds.{list_all-map}
 use Rattle.std.proofs.lemmas.List.Sums.{prefix_len-le-length}
+use Rattle.scene_model.specs.declared.edit.Edit.{Edit}
 use Rattle.scene_model.specs.declared.edit.EditRow.{EditRow}
 use Rattle.scene_model.specs.declared.order.NumberedEdit.{NumberedEdit}
 use Rattle.scene_model.specs.Order.{numbered, put, in_order}
@@ -45,12 +46,12 @@ put_into placed seen new e r n found same is inserted =
     ∙ put_at placed e
 
 -- no edit of these is before that frame
-abbrev NoneBefore : ℕ → List NumberedEdit → Type 0
+abbrev pub NoneBefore : ℕ → List NumberedEdit → Type 0
 NoneBefore at [] = Unit {0}
 NoneBefore at (x ∷ placed) = (at ≤ x.row.at) × NoneBefore at placed
 
 -- no edit is before one that stands before it
-abbrev Ascend : List NumberedEdit → Type 0
+abbrev pub Ascend : List NumberedEdit → Type 0
 Ascend [] = Unit {0}
 Ascend (x ∷ placed) = NoneBefore x.row.at placed × Ascend placed
 
@@ -92,11 +93,14 @@ ascend_at (x ∷ placed) up zero (suc j) d order within = none_at x.row.at place
 ascend_at (x ∷ placed) up (suc i) zero d order within = absurd (omega arith)
 ascend_at (x ∷ placed) up (suc i) (suc j) d order within = ascend_at placed up.1 i j d (omega arith) (omega arith)
 
+pub order_ascend : (rows : List EditRow) → Ascend (in_order rows)
+order_ascend rows = ascend_all [] (numbered 0 rows) tt
+
 pub order_ascends : (rows : List EditRow) → IsNonDecreasingBy (λ (e : NumberedEdit). e.row.at) (in_order rows)
-order_ascends rows = ascend_at (in_order rows) (ascend_all [] (numbered 0 rows) tt)
+order_ascends rows = ascend_at (in_order rows) (order_ascend rows)
 
 -- the edits of a frame
-abbrev of_frame : ℕ → List NumberedEdit → List NumberedEdit
+abbrev pub of_frame : ℕ → List NumberedEdit → List NumberedEdit
 of_frame t es = filter (λ (e : NumberedEdit). e.row.at == t) es
 
 none_of_frame : (t at : ℕ) (placed : List NumberedEdit) → t < at → NoneBefore at placed → of_frame t placed ≡ []
@@ -157,6 +161,15 @@ order_keeps_edits rows t =
     ap (map (λ (r : EditRow). r.edit))
     (rows_of_frame t (in_order rows) ∙ ap rows_of (order_keeps_frames rows t) ∙ sym (rows_of_frame t (numbered 0 rows))
     ∙ ap (filter (λ (r : EditRow). r.at == t)) (rows_of_numbered 0 rows))
+
+edits_of_rows : (es : List NumberedEdit) → map (λ (e : NumberedEdit). e.row.edit) es ≡ map (λ (r : EditRow). r.edit) (rows_of es)
+edits_of_rows [] = refl
+edits_of_rows (e ∷ es) = ap (λ (rest : List Edit). e.row.edit ∷ rest) (edits_of_rows es)
+
+pub edits_of_frame : (rows : List EditRow) (t : ℕ) → map (λ (e : NumberedEdit). e.row.edit) (of_frame t (in_order rows)) ≡ edits_at rows t
+edits_of_frame rows t =
+    edits_of_rows (of_frame t (in_order rows))
+    ∙ ap (map (λ (r : EditRow). r.edit)) (sym (rows_of_frame t (in_order rows))) ∙ order_keeps_edits rows t
 
 -- what holds of each edit of the script holds of each in order
 all_put : (p : NumberedEdit → Bool) (placed : List NumberedEdit) (e : NumberedEdit) → list_all p (put placed e) ≡ (p e && list_all p placed)

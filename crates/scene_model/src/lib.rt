@@ -40,7 +40,7 @@ pub use bus_row::BusRow;
 pub use edit::{Edit, EditRow};
 pub use laws::{
     a_plan_takes_the_edits_of_a_scene, edits_are_ordered_by_frames, edits_keep_kinds_and_outputs,
-    no_plan_has_a_cycle,
+    no_plan_has_a_cycle, plan_is_all_edits_so_far,
 };
 pub use limits::{
     MAX_FILE_NAME_BYTES, MAX_GAIN, MAX_LENGTH, MAX_NAME_BYTES, MAX_PLACE, MAX_RATE, MAX_SEEKS,

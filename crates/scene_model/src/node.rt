@@ -13,9 +13,9 @@ pub enum NodeKind {
         /// Whether it starts again at the end of the resource.
         looped: bool,
     },
-    /// A group: one input, which it hands on to its one output.
+    /// A group: one input, which it passes on to its one output.
     Group,
-    /// A splitter: one input, which it hands on to each of its outputs.
+    /// A splitter: one input, which it passes on to each of its outputs.
     Splitter {
         /// The number of outputs, 2 to 4.
         outputs: u8,

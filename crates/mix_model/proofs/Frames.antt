@@ -113,7 +113,7 @@ stays_at clips s n t none =
 pub no_frames_past : (clips : List SceneClipData) (s : SceneData) (n : ℕ) → length s.nodes ≤ n → node_frames clips s n ≡ 0
 no_frames_past clips s n past = ap (λ (o : Option Node). option_map_or (λ (x : Node). kind_frames clips x.kind) o 0) (slice_get_past s.nodes n past)
 
-cursor_more : (clips : List SceneClipData) (s : SceneData) (n t : ℕ) → cursor_before clips s n (t + 1) ≡ next_cursor (plan s t) t n (node_frames clips s n) (cursor clips s n t)
+pub cursor_more : (clips : List SceneClipData) (s : SceneData) (n t : ℕ) → cursor_before clips s n (t + 1) ≡ next_cursor (plan s t) t n (node_frames clips s n) (cursor clips s n t)
 unfolding cursor_before
 cursor_more clips s n t = let e : t + 1 ≡ suc t = omega arith in rw e refl
 

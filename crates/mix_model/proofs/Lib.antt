@@ -1,4 +1,5 @@
 pub mod AddedShares
+pub mod CursorLaws
 pub mod Deepening
 pub mod DueEdits
 pub mod Frames

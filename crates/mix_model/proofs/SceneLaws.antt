@@ -131,7 +131,7 @@ cursor_after_edit_same n frames c (From target value) other = refl
 cursor_after_edit_same n frames c (Until target value) other = refl
 cursor_after_edit_same n frames c (Loop target on) other = refl
 
-cursor_after_edit_all : (n frames c : ℕ) (es : List Edit) → NoneSeeks n es → fold (cursor_after_edit n frames) c es ≡ c
+pub cursor_after_edit_all : (n frames c : ℕ) (es : List Edit) → NoneSeeks n es → fold (cursor_after_edit n frames) c es ≡ c
 cursor_after_edit_all n frames c [] none = refl
 cursor_after_edit_all n frames c (e ∷ es) none =
     let P = λ (x : Edit). (place : ℕ) → x ≢ Seek n place in

@@ -39,7 +39,7 @@ pub added_more : (m : FrameState) (channel : ℕ) (ordered_buses : List Bus) (ol
     → ((n : ℕ) → n < length old → sum_at old n ≡ total (share m channel (input m channel) n) (take i ordered_buses))
     → ShareAdded m channel (get_or ordered_buses i no_bus) old new
     → (n : ℕ) → n < length new → sum_at new n ≡ total (share m channel (input m channel) n) (take (i + 1) ordered_buses)
-added_more m channel ordered_buses old new i buses none ordered within inside same so_far added n lt =
+added_more m channel ordered_buses old new i buses none ordered within inside same so_far grown n lt =
     let b = get_or ordered_buses i no_bus in
     let v = input m channel in
     let whole = front_whole m channel v b.node ordered_buses i (λ k. ordered i k) in
@@ -47,7 +47,7 @@ added_more m channel ordered_buses old new i buses none ordered within inside sa
     let settled : sat24 (sum_at old b.node) ≡ v b.node =
     ap sat24 (so_far b.node inside ∙ whole ∙ ap (total (share m channel v b.node)) (sym buses)) ∙ sym (solves b.node) in
     let added = share_same m channel (λ k. sat24 (sum_at old k)) v n b (λ e. settled) in
-    added n (omega arith)
+    grown n (omega arith)
     ∙ ap (λ x. x +ℤ share m channel (λ k. sat24 (sum_at old k)) n b) (so_far n (omega arith))
     ∙ ap (λ x. total (share m channel v n) (take i ordered_buses) +ℤ x) added
     ∙ sym (total_more (share m channel v n) ordered_buses i no_bus within)

@@ -1,5 +1,6 @@
 pub mod Depths
 pub mod Due
+pub mod FaultText
 pub mod Iteration
 pub mod Laws
 pub mod Mix

@@ -65,7 +65,7 @@ impl Blocks {
         pack(alloc, self.samples.as_slice(), scene.width, &mut self.bytes)?;
         self.summary = self
             .summary
-            .noted(self.samples.as_slice(), self.bytes.as_slice());
+            .extended(self.samples.as_slice(), self.bytes.as_slice());
         Ok(())
     }
 }

@@ -1,6 +1,6 @@
 //! Laws of the mix, for readers of its definitions. The functions do nothing.
 
-ghost use Rattle.std.specs.Prelude.{◌≡◌, ◌<◌, ◌≤◌, ◌++◌, [], ◌∷◌, ℕ, Bool, ℤ, pos, List, replicate};
+ghost use Rattle.std.specs.Prelude.{◌≡◌, ◌<◌, ◌≤◌, ◌+◌, ◌%◌, ◌++◌, [], ◌∷◌, ℕ, Bool, true, false, ℤ, pos, List, min, replicate};
 ghost use Rattle.std.specs.List.Sorted.{IsPermutation};
 ghost use Rattle.scene_clips.specs.SceneClipData.{SceneClipData};
 ghost use Rattle.scene_model.specs.declared.bus.Bus.{Bus};
@@ -9,8 +9,8 @@ ghost use Rattle.scene_model.specs.PlanData.{PlanData};
 ghost use Rattle.scene_model.specs.Reach.{HasNoCycle};
 ghost use Rattle.scene_model.specs.SceneData.{SceneData};
 ghost use Rattle.scene_model.specs.Times.{edits_at, plan};
-ghost use Rattle.mix_model.specs.Laws.{with_buses, NoneAttached, with_edits, IsUntouched};
-ghost use Rattle.mix_model.specs.Mix.{cursor, mix};
+ghost use Rattle.mix_model.specs.Laws.{with_buses, NoneAttached, with_edits, NoneSeeks, IsUntouched, PlaysOn};
+ghost use Rattle.mix_model.specs.Mix.{node_frames, cursor, mix};
 ghost use Rattle.mix_model.specs.Pulled.{endpoint, pulled_by, pulled};
 ghost use Rattle.mix_model.specs.Signals.{FrameState, input_by, input};
 ghost use Rattle.mix_model.specs.Iteration.{Solves};
@@ -55,7 +55,19 @@ pub fn edits_past_the_end_change_nothing()
         mix (with_edits s (s.edits ++ row ∷ [])) files ≡ mix s files }
 {}
 
-/// A law: a node that was never pulled keeps its cursor at its first frame until it is sought.
+/// A law: where a node isn't pulled at a frame, its cursor stays until the node is sought. So a node
+/// that was never pulled is at its first frame.
 pub fn what_is_not_pulled_does_not_move()
-    ensures { (clips : List SceneClipData) (s : SceneData) (n t : ℕ) → IsUntouched s n t → cursor clips s n t ≡ 0 }
+    ensures stays { (clips : List SceneClipData) (s : SceneData) (n t : ℕ) → pulled (plan s t) t n ≡ false →
+        NoneSeeks n (edits_at s.edits (t + 1)) → cursor clips s n (t + 1) ≡ cursor clips s n t }
+    ensures first { (clips : List SceneClipData) (s : SceneData) (n t : ℕ) → IsUntouched s n t → cursor clips s n t ≡ 0 }
+{}
+
+/// A law: a sound that is pulled from frame 0 on and never sought is at frame `t` of its clip, and at
+/// the clip's end from there on. Where it is looped, it starts again at the end.
+pub fn a_sound_plays_its_clip()
+    ensures once { (clips : List SceneClipData) (s : SceneData) (n t : ℕ) → PlaysOn s n t false →
+        cursor clips s n t ≡ min t (node_frames clips s n) }
+    ensures looped { (clips : List SceneClipData) (s : SceneData) (n t : ℕ) → PlaysOn s n t true → 0 < node_frames clips s n →
+        cursor clips s n t ≡ t % node_frames clips s n }
 {}

@@ -30,7 +30,7 @@ mod rendering;
 mod summary;
 
 pub use laws::{
-    edits_past_the_end_change_nothing, inputs_have_one_solution, pulls_have_one_solution,
+    a_sound_plays_its_clip, edits_past_the_end_change_nothing, inputs_have_one_solution, pulls_have_one_solution,
     the_order_of_buses_makes_no_difference, what_is_not_attached_is_silent,
     what_is_not_pulled_does_not_move,
 };

@@ -11,6 +11,11 @@ pub enum MixFault {
 }
 
 impl fmt::Display for MixFault {
+    ghost use Rattle.std.specs.Prelude.{Some};
+    ghost use Rattle.mix_model.specs.FaultText.{fault_text};
+
+    ghost output = { λ fault. Some (fault_text fault) };
+
     fn fmt<W: fmt::Write>(&self, f: &mut fmt::Formatter<W>) -> fmt::Result {
         match self {
             MixFault::SinkFault => f.write_str("the sink failed"),

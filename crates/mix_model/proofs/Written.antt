@@ -11,16 +11,17 @@ use Rattle.mix_fixed.specs.Sound.{Is24, sat24}
 use Rattle.clip_decode.specs.Frames.{interleaved}
 use Rattle.scene_clips.specs.SceneClipData.{SceneClipData}
 use Rattle.scene_model.specs.SceneData.{SceneData}
-use Rattle.snd_io.specs.declared.answers.Put.TheVariants.{Failed, OutOfMemory}
-use Rattle.snd_io.specs.Answers.{IsPrefix, IsPrefix-none, Writes}
+use Rattle.snd_io.specs.Answers.{IsPrefix, Writes}
 use Rattle.snd_io.specs.Runs.{writes-then, writes-failed, writes-out_of_memory}
 use Rattle.wave_write.specs.Header.{header, data_bytes}
 use Rattle.wave_write.specs.Samples.{packed_sample, packed}
 use Rattle.mix_model.specs.declared.blocks.Blocks.{Blocks}
+use Rattle.mix_model.specs.declared.mix_fault.MixFault.{MixFault}
+use Rattle.mix_model.specs.declared.mix_fault.MixFault.TheVariants.{SinkFault, OutOfMemory as NoMemory}
 use Rattle.mix_model.specs.Mix.{frame_state, clips_of, frames_from, mix}
 use Rattle.mix_model.specs.Output.{padding, wav}
 use Rattle.mix_model.specs.Pulled.{endpoint}
-use Rattle.mix_model.specs.Rendering.{data_of, frames_before}
+use Rattle.mix_model.specs.Rendering.{data_of, frames_before, fault_answer}
 use Rattle.mix_model.specs.Signals.{FrameState, input, frame}
 use Rattle.mix_model.specs.Iteration.{iterate}
 
@@ -99,15 +100,13 @@ pub nothing : (text : Option (List ℕ)) → text ≡ option_map (λ t. t ++ [])
 nothing None = refl
 nothing (Some text) = ap Some (sym (append-nil text))
 
-pub none_written : (bytes : List ℕ) (text : Option (List ℕ)) → Writes OutOfMemory bytes text text
-none_written bytes text = ([], IsPrefix-none bytes, nothing text)
+-- nothing follows a write that failed
+pub stopped : (fault : MixFault) (first rest : List ℕ) (a b : Option (List ℕ)) → Writes (fault_answer fault) first a b → Writes (fault_answer fault) (first ++ rest) a b
+stopped SinkFault first rest a b wrote = writes-failed first rest a b wrote
+stopped NoMemory first rest a b wrote = writes-out_of_memory first rest a b wrote
 
-pub stopped_failed : (first bytes joined whole : List ℕ) (a b c : Option (List ℕ)) → joined ≡ first ++ bytes → IsPrefix joined whole → b ≡ option_map (λ t. t ++ first) a → Writes Failed bytes b c → Writes Failed whole a c
-stopped_failed first bytes joined whole a b c e (rest, is) so_far wrote =
-    subst (λ (all : List ℕ). Writes Failed all a c) (sym (is ∙ ap (λ xs. xs ++ rest) e))
-    (writes-failed (first ++ bytes) rest a c (writes-then Failed first bytes a b c so_far wrote))
-
-pub stopped_out_of_memory : (first bytes joined whole : List ℕ) (a b c : Option (List ℕ)) → joined ≡ first ++ bytes → IsPrefix joined whole → b ≡ option_map (λ t. t ++ first) a → Writes OutOfMemory bytes b c → Writes OutOfMemory whole a c
-stopped_out_of_memory first bytes joined whole a b c e (rest, is) so_far wrote =
-    subst (λ (all : List ℕ). Writes OutOfMemory all a c) (sym (is ∙ ap (λ xs. xs ++ rest) e))
-    (writes-out_of_memory (first ++ bytes) rest a c (writes-then OutOfMemory first bytes a b c so_far wrote))
+-- a block that wasn't written whole, after those before it
+pub stopped_block : (fault : MixFault) (first bytes joined whole : List ℕ) (a b c : Option (List ℕ)) → joined ≡ first ++ bytes → IsPrefix joined whole → b ≡ option_map (λ t. t ++ first) a → Writes (fault_answer fault) bytes b c → Writes (fault_answer fault) whole a c
+stopped_block fault first bytes joined whole a b c e (rest, is) so_far wrote =
+    subst (λ (all : List ℕ). Writes (fault_answer fault) all a c) (sym (is ∙ ap (λ xs. xs ++ rest) e))
+    (stopped fault (first ++ bytes) rest a c (writes-then (fault_answer fault) first bytes a b c so_far wrote))

@@ -30,7 +30,10 @@ pub record IsRendered (s : SceneData) (b : Blocks) : Type 0 where
   pub summary_is : b.summary ≡ summary_of s (frames_before s b)
 
 -- the answer of a sink that ends a mix in this way
+abbrev pub fault_answer : MixFault → Put
+fault_answer SinkFault = Failed
+fault_answer OutOfMemory = PutOutOfMemory
+
 abbrev pub answer_of : {T : Type 0} → Result T MixFault → Put
 answer_of (Ok x) = Done
-answer_of (Err SinkFault) = Failed
-answer_of (Err OutOfMemory) = PutOutOfMemory
+answer_of (Err fault) = fault_answer fault

@@ -1,3 +1,4 @@
+use plain_data::OutOfMemory;
 use std::error::Error;
 use std::fmt;
 
@@ -25,3 +26,14 @@ impl fmt::Display for MixFault {
 }
 
 impl Error for MixFault {}
+
+impl From<OutOfMemory> for MixFault {
+    ghost use Rattle.std.specs.Prelude.{◌≡◌};
+    ghost use Rattle.mix_model.specs.declared.mix_fault.MixFault.TheVariants.{OutOfMemory as NoMemory};
+
+    ghost from_gives = { λ _ fault. fault ≡ NoMemory };
+
+    fn from(_: OutOfMemory) -> Self {
+        MixFault::OutOfMemory
+    }
+}

@@ -50,9 +50,6 @@ data_rest s clips b same within = (
       ∙ ap (λ cs. data_of s (frames_from cs s 0 b.player.time) ++ data_of s (frames_from clips s b.player.time (s.length - b.player.time))) (sym same),
 )
 
-pub all_frames : (s : SceneData) (clips : List SceneClipData) (b : Blocks) → b.player.clips.items ≡ clips → b.player.time ≡ s.length → frames_before s b ≡ frames_from clips s 0 s.length
-all_frames s clips b same whole = ap (λ cs. frames_from cs s 0 b.player.time) same ∙ ap (frames_from clips s 0) whole
-
 -- ---- the samples have 24 bits
 
 sat24_range : (x : ℤ) → Is24 (sat24 x)

@@ -7,4 +7,5 @@ pub mod PlanStays
 pub mod Reachable
 pub mod Runs
 pub mod Seeks
+pub mod Sorting
 pub mod Steps

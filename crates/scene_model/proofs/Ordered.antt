@@ -18,33 +18,6 @@ use Rattle.scene_model.specs.Times.{edits_at}
 abbrev later : ℕ → NumberedEdit → Bool
 later at e = nat_lt at e.row.at
 
-found_or_all : (n m : ℕ) → n ≤ m → unwrap_or (cond (nat_lt n m) (Some n) None) m ≡ n
-found_or_all n m most = by_test (nat_lt n m) refl
-  where
-    by_test : (t : Bool) → nat_lt n m ≡ t → unwrap_or (cond t (Some n) None) m ≡ n
-    by_test true e = refl
-    by_test false e = let h = ltb-false n m e in omega arith
-
--- the place that `position` finds, or the length
-place_or_all : (at : ℕ) (placed : List NumberedEdit) (r : Option ℕ) → r ≡ position (later at) placed → unwrap_or r (length placed) ≡ position_or_len (later at) placed
-place_or_all at placed r e =
-    ap (λ (o : Option ℕ). unwrap_or o (length placed)) e ∙ found_or_all (position_or_len (later at) placed) (length placed) (prefix_len-le-length _ placed)
-
--- an edit is put at that place
-pub put_at : (placed : List NumberedEdit) (e : NumberedEdit) → take (position_or_len (later e.row.at) placed) placed ++ e ∷ drop (position_or_len (later e.row.at) placed) placed ≡ put placed e
-put_at [] e = refl
-put_at (x ∷ placed) e = by_test (put_at placed e) (later e.row.at x) refl
-  where
-    by_test : take (position_or_len (later e.row.at) placed) placed ++ e ∷ drop (position_or_len (later e.row.at) placed) placed ≡ put placed e → (t : Bool) → later e.row.at x ≡ t → take (position_or_len (later e.row.at) (x ∷ placed)) (x ∷ placed) ++ e ∷ drop (position_or_len (later e.row.at) (x ∷ placed)) (x ∷ placed) ≡ put (x ∷ placed) e
-    by_test ih true is = rw is refl
-    by_test ih false is = rw (is, one-add) (ap (λ (es : List NumberedEdit). x ∷ es) ih)
-
-pub put_into : (placed seen new : List NumberedEdit) (e : NumberedEdit) (r : Option ℕ) (n : ℕ) → r ≡ position (later e.row.at) seen → seen ≡ placed → n ≡ unwrap_or r (length placed) → new ≡ insert placed n e → new ≡ put placed e
-put_into placed seen new e r n found same is inserted =
-    inserted
-    ∙ ap (λ i. insert placed i e) (is ∙ place_or_all e.row.at placed r (found ∙ ap (position (later e.row.at)) same))
-    ∙ put_at placed e
-
 -- no edit of these is before that frame
 abbrev pub NoneBefore : ℕ → List NumberedEdit → Type 0
 NoneBefore at [] = Unit {0}

@@ -149,7 +149,15 @@ impl Player {
         let cursors = self.cursors.as_slice();
         let sums = &mut self.sums.as_mut_slice()[..=nodes.len()];
         for channel in 0..scene.channels {
-            inputs(nodes, ordered_buses, clips, cursors, self.time, channel, sums);
+            inputs(
+                nodes,
+                ordered_buses,
+                clips,
+                cursors,
+                self.time,
+                channel,
+                sums,
+            );
             samples.push(sat24(sums[nodes.len()]))?;
         }
         Ok(())

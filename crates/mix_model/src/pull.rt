@@ -18,7 +18,12 @@ pub(crate) fn pull(nodes: &[NodeState], ordered_buses: &[Bus], time: u32, marks:
     marks.fill(false);
     marks[nodes.len()] = true;
     for done in 0..ordered_buses.len() {
-        mark(nodes, &ordered_buses[ordered_buses.len() - 1 - done], time, marks);
+        mark(
+            nodes,
+            &ordered_buses[ordered_buses.len() - 1 - done],
+            time,
+            marks,
+        );
     }
 }
 

@@ -1,12 +1,11 @@
 -- The plan at a frame is the opening plan after all edits up to that frame.
-use Rattle.std.proofs.Common.{◌≡◌, ℕ, zero, suc, ◌<◌, ◌≤◌, Bool, true, false, cond, List, [], ◌∷◌, ◌++◌, map, nat_lt, refl, sym, ◌∙◌, ap, arith}
+use Rattle.std.proofs.Common.{◌≡◌, ℕ, zero, suc, ◌≤◌, Bool, true, false, cond, List, [], ◌∷◌, ◌++◌, map, nat_lt, refl, sym, ◌∙◌, ap, arith}
 use Rattle.std.specs.Prelude.{filter, fold, ◌==◌, nat_le}
 use Rattle.std.proofs.Math.Dec.{leb-suc-suc}
 use Rattle.std.proofs.lemmas.Bool.{eqb-true, eqb-false, ltb-true, ltb-false}
 use Rattle.std.proofs.lemmas.List.{map-append}
 use Rattle.std.proofs.lemmas.List.Sums.{fold-append}
 use Rattle.scene_model.specs.declared.edit.Edit.{Edit}
-use Rattle.scene_model.specs.declared.edit.EditRow.{EditRow}
 use Rattle.scene_model.specs.declared.order.NumberedEdit.{NumberedEdit}
 use Rattle.scene_model.specs.Opening.{opening}
 use Rattle.scene_model.specs.Order.{in_order}

@@ -8,8 +8,8 @@ ghost use Rattle.mix_model.specs.Mix.{cursor_after_edit};
 use scene_model::{Edit, NumberedEdit, Plan, apply};
 
 /// Makes the edits of a frame, which begin at `place`: in the plan, and of the seeks in the cursors.
-/// `frames` has the length of each node's clip. Answers the place of the
-/// first edit of a later frame.
+/// `frames` has the length of each node's clip. Answers the place of the first edit of a later
+/// frame.
 pub(crate) fn make_due(
     edits: &[NumberedEdit],
     place: usize,

@@ -13,8 +13,8 @@ use scene_clips::SceneClip;
 use scene_model::{Bus, NodeKind, NodeState};
 
 /// Computes the input of each node and of the endpoint, before saturation, in one channel. The
-/// buses are in an order in which no bus leads to its own node or to that of a bus before it, so
-/// that each sum is whole before it is passed on, and each bus is looked at once.
+/// buses are in a topological order, so that each sum is whole before it is passed on, and each bus
+/// is looked at once.
 pub(crate) fn inputs(
     nodes: &[NodeState],
     ordered_buses: &[Bus],

@@ -55,16 +55,16 @@ pub fn edits_past_the_end_change_nothing()
         mix (with_edits s (s.edits ++ row ∷ [])) files ≡ mix s files }
 {}
 
-/// A law: where a node isn't pulled at a frame, its cursor stays until the node is sought. So a node
-/// that was never pulled is at its first frame.
+/// A law: a node that isn't pulled at a frame has the same cursor at the next one, unless it is
+/// sought there. So a node that was never pulled nor sought is at its first frame.
 pub fn what_is_not_pulled_does_not_move()
     ensures stays { (clips : List SceneClipData) (s : SceneData) (n t : ℕ) → pulled (plan s t) t n ≡ false →
         NoneSeeks n (edits_at s.edits (t + 1)) → cursor clips s n (t + 1) ≡ cursor clips s n t }
     ensures first { (clips : List SceneClipData) (s : SceneData) (n t : ℕ) → IsUntouched s n t → cursor clips s n t ≡ 0 }
 {}
 
-/// A law: a sound that is pulled from frame 0 on and never sought is at frame `t` of its clip, and at
-/// the clip's end from there on. Where it is looped, it starts again at the end.
+/// A law: a sound that is pulled from frame 0 on and never sought plays its clip. At frame `t` it is
+/// at frame `t` of the clip, and stays at the clip's end; where it is looped, it starts again there.
 pub fn a_sound_plays_its_clip()
     ensures once { (clips : List SceneClipData) (s : SceneData) (n t : ℕ) → PlaysOn s n t false →
         cursor clips s n t ≡ min t (node_frames clips s n) }

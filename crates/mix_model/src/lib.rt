@@ -11,9 +11,8 @@
 //!
 //! [`plain_mix`] writes that file to a sink, and answers a [`Summary`] of it or a [`MixFault`]. The
 //! modules below it are the parts of a frame: the edits that are due, a topological order of the
-//! buses, inputs,
-//! what is pulled, cursors. The laws, functions that do nothing, say that the definitions hold what
-//! one would expect of a mix.
+//! buses, inputs, what is pulled, cursors. The laws, functions that do nothing, say that the
+//! definitions hold what one would expect of a mix.
 #![tactic(auto)]
 
 mod blocks;

@@ -15,8 +15,8 @@ use std::alloc::Global;
 /// One more than the greatest number of nodes of a plan, for the endpoint.
 pub(crate) const MAX_INPUTS: usize = 129;
 
-/// The buses of a plan in a topological order, in which no bus leads to its own node or to that of a
-/// bus before it: by the length of the longest path to their node.
+/// The buses of a plan in a topological order: no bus leads to its own node or to that of a bus
+/// before it. It goes by the length of the longest path to their node.
 pub(crate) fn topological_order(alloc: Global, buses: &[Bus]) -> Result<Vec<Bus>, OutOfMemory>
     requires buses { All (IsBusOf limits.most_nodes) buses.now }
     requires no_cycle { HasNoCycle buses.now }

@@ -8,7 +8,7 @@ ghost use Rattle.mix_model.specs.OrderedBuses.{plan_of, AreOrderedBuses, mark_at
 use crate::frame::is_active;
 use scene_model::{Bus, NodeState};
 
-/// Marks each node that is pulled, and the endpoint. The buses are in the order of `inputs`, and are
+/// Marks each node that is pulled, and the endpoint. The buses are in a topological order and are
 /// looked at from the last to the first, so that a target's mark is settled before it is asked for.
 pub(crate) fn pull(nodes: &[NodeState], ordered_buses: &[Bus], time: u32, marks: &mut [bool])
     requires ordered_buses { AreOrderedBuses (length nodes.now) ordered_buses.now }

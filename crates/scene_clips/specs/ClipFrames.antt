@@ -18,7 +18,7 @@ all_in_channels channels frames = map (in_channels channels) frames
 abbrev pub sample_or_zero : List (List ℤ) → ℕ → ℕ → ℤ
 sample_or_zero frames n c = slice_index_or (slice_index_or frames n []) c (pos 0)
 
--- the sample of channel c in frame n after conversion from the rate input_rate to output_rate: between the two frames where it lies
+-- the sample of channel c in frame n after conversion from input_rate to output_rate: between the two frames where it lies
 abbrev pub sample_at_rate : ℕ → ℕ → List (List ℤ) → ℕ → ℕ → ℤ
 sample_at_rate input_rate output_rate frames n c =
     let p = point_at input_rate output_rate n in

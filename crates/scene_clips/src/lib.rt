@@ -1,8 +1,8 @@
 //! Clips at a scene's rate and in its channels.
 //!
-//! A [`SceneClip`] is a clip that is decoded whole, once. Its samples are read by the
-//! numbers of their frame and their channel, in any order: each takes at most two frames of the
-//! file, brings them to the scene's channels, and blends them where it lies between the two.
+//! A [`SceneClip`] is a clip that is decoded whole, once. Its samples are read by the numbers of
+//! their frame and their channel, in any order: each takes at most two frames of the file, brings
+//! them to the scene's channels, and blends them where it lies between the two.
 //!
 //! `specs/ClipFrames.antt` says which these are: the list of the file's frames, converted to the
 //! scene's channels frame by frame and then to its rate. [`clip_has_samples`] says that the samples

@@ -143,9 +143,9 @@ impl SceneClip {
     /// The sample of a channel in a frame, both counted from 0, at the scene's rate: a number of 24
     /// bits, -8388608 to 8388607.
     ///
-    /// It is interpolated linearly between two frames of the file and rounded down. After the file's
-    /// last frame stands a frame of 0. Each of the two is brought to the scene's channels first: one is the mean of all, rounded down, two are the only
-    /// one twice or else the first two.
+    /// It is interpolated linearly between two frames of the file and rounded down. After the last
+    /// frame of the file stands a frame of 0. Each of the two is brought to the scene's channels
+    /// first: one is the mean of all, rounded down, two are the only one twice or else the first two.
     pub fn sample(&self, n: u64, channel: u8) -> i32
         requires frame { n < clip_length self.now.bytes self.now.rate }
         requires channel { channel < self.now.channels }

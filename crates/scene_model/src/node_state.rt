@@ -15,13 +15,13 @@ pub struct NodeState {
     pub started: bool,
     /// The first frame at which it may be active, 0 to 16777216 in a script.
     pub from: u32,
-    /// The frame from which on it is no longer active, 0 to 16777216 in a script. It is never active
-    /// where this is at most `from`.
+    /// The frame from which on it is no longer active, 0 to 16777216 in a script. It is never
+    /// active where this is at most `from`.
     pub until: u32,
     /// How many seeks were made so far, 0 to 131071. It is 0 for a group or a splitter.
     pub seeks: u32,
-    /// The place of the last seek, in frames at the scene's rate, 0 to 140737488355327, and 0 before
-    /// the first.
+    /// The place of the last seek, in frames at the scene's rate, 0 to 140737488355327, and 0
+    /// before the first.
     pub place: u64,
     /// Whether a sound starts again at its end. It is `false` for a group or a splitter.
     pub looped: bool,

@@ -10,7 +10,7 @@ use Rattle.std.proofs.lemmas.List.Sums.{sum_by-set, sum_by-le}
 use Rattle.scene_model.specs.declared.bus.Bus.{Bus}
 use Rattle.scene_model.specs.Reach.{HasNoCycle}
 use Rattle.mix_model.specs.Depths.{Rises, AllRise, depth_at, AreAtMost, StaysBelow, IsDeeper}
-use Rattle.mix_model.specs.Wires.{no_bus, IsOrdered}
+use Rattle.mix_model.specs.OrderedBuses.{no_bus, IsOrdered}
 use Rattle.mix_model.proofs.Ranks.{ranked}
 
 pub zeros_at : (xs : List ℕ) (count n : ℕ) → xs ≡ replicate count 0 → get_or xs n 0 ≡ 0
@@ -114,8 +114,8 @@ pub sum_most : (depths : List ℕ) → AreAtMost 256 depths → sum depths ≤ l
 sum_most depths most = sum_by-le (λ x. x) 256 depths (λ k d inside. rw (get_or_default depths k d 0 inside) (most k))
 
 -- an order by depth
-pub ordered_by_depth : (depths : List ℕ) (buses wires : List Bus) → AllRise (depth_at depths) buses → IsPermutation buses wires → IsNonDecreasingBy (λ (b : Bus). depth_at depths b.node) wires → IsOrdered wires
-ordered_by_depth depths buses wires rise moved sorted j k le inside e =
-    let up = All-permutation (Rises (depth_at depths)) buses wires moved rise k no_bus inside (get_or wires j no_bus).node e in
+pub ordered_by_depth : (depths : List ℕ) (buses ordered_buses : List Bus) → AllRise (depth_at depths) buses → IsPermutation buses ordered_buses → IsNonDecreasingBy (λ (b : Bus). depth_at depths b.node) ordered_buses → IsOrdered ordered_buses
+ordered_by_depth depths buses ordered_buses rise moved sorted j k le inside e =
+    let up = All-permutation (Rises (depth_at depths)) buses ordered_buses moved rise k no_bus inside (get_or ordered_buses j no_bus).node e in
     let down = sorted j k no_bus le inside in
     omega arith

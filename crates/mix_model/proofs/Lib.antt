@@ -1,9 +1,11 @@
+pub mod AddedShares
+pub mod CursorLaws
 pub mod Deepening
 pub mod DueEdits
 pub mod Frames
 pub mod Inputs
+pub mod Iterating
 pub mod Marks
-pub mod Pouring
 pub mod Pulls
 pub mod Ranks
 pub mod SceneLaws
@@ -11,5 +13,4 @@ pub mod ScenePlans
 pub mod Starting
 pub mod Sums
 pub mod Totals
-pub mod Turning
 pub mod Written

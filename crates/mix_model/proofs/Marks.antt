@@ -8,8 +8,8 @@ use Rattle.scene_model.specs.declared.bus.Bus.{Bus}
 use Rattle.scene_model.specs.PlanData.{PlanData}
 use Rattle.scene_model.specs.Reach.{HasNoCycle, target_passes}
 use Rattle.mix_model.specs.Pulled.{node, endpoint, is_active, leads_to_any, pulled}
-use Rattle.mix_model.specs.Wires.{no_bus, IsOrdered, mark_at, IsMarked}
-use Rattle.mix_model.proofs.Pulls.{passes_same, pulled-keeps}
+use Rattle.mix_model.specs.OrderedBuses.{no_bus, IsOrdered, mark_at, IsMarked}
+use Rattle.mix_model.proofs.Pulls.{passes_same, pulled-solves}
 
 -- the marks are what the buses from one place on make of them
 abbrev pub IsMarkedBy : PlanData → ℕ → ℕ → List Bool → Type 0
@@ -71,10 +71,10 @@ marked_more p t i at before old new at_is before_is none ordered within long ins
         marks to bound
         ∙ ap (λ x. eqb to (endpoint p) || (is_active t (node p to) && x))
         (later_only p.buses (pulled p t) (i + 1) to (λ k below short own. ordered k i (omega arith) within (e ∙ ap Some (sym own))))
-        ∙ sym (pulled-keeps p t none to)
+        ∙ sym (pulled-solves p t none to)
 
 -- when all buses are looked at the marks are what is pulled
 pub marked_all : (p : PlanData) (t i : ℕ) (marks : List Bool) → HasNoCycle p.buses → i ≡ 0 → IsMarkedBy p t i marks → (n : ℕ) → n ≤ endpoint p → mark_at marks n ≡ pulled p t n
 marked_all p t i marks none start is n le =
     let all : IsMarkedBy p t 0 marks = subst (λ (k : ℕ). IsMarkedBy p t k marks) start is in
-    all n le ∙ sym (pulled-keeps p t none n)
+    all n le ∙ sym (pulled-solves p t none n)

@@ -10,9 +10,9 @@ use Rattle.scene_model.specs.PlanData.{PlanData}
 use Rattle.scene_model.specs.Reach.{HasNoCycle, target_passes}
 use Rattle.scene_model.proofs.Reachable.{Contains_first, Contains_later}
 use Rattle.mix_model.specs.Pulled.{node, endpoint, is_active, leads_to_any, pulled_by, pulled}
-use Rattle.mix_model.specs.Turns.{turns, Keeps}
+use Rattle.mix_model.specs.Iteration.{iterate, Solves}
 use Rattle.mix_model.proofs.Ranks.{Ranked, ranked}
-use Rattle.mix_model.proofs.Turning.{LooksDown, turns-keep, turns-only, turns-same}
+use Rattle.mix_model.proofs.Iterating.{LooksDown, iterate-solves, iterate-only, iterate-same}
 
 any_same : {X : Type 0} (p q : X → Bool) (xs : List X) → ((x : X) → Contains xs x → p x ≡ q x) → list_any p xs ≡ list_any q xs
 any_same p q [] same = refl
@@ -60,25 +60,25 @@ pulls_look_down p t rank raised = record {
       same to (down_from-less (length p.buses) rank n to up (raised.bounded to))));
 }
 
-pub pulled-keeps : (p : PlanData) (t : ℕ) → HasNoCycle p.buses → Keeps (pulled_by p t) (pulled p t)
+pub pulled-solves : (p : PlanData) (t : ℕ) → HasNoCycle p.buses → Solves (pulled_by p t) (pulled p t)
 unfolding pulled
-pulled-keeps p t none =
+pulled-solves p t none =
     let r = ranked p.buses none in
-    turns-keep (down_from (length p.buses) r.0) (pulled_by p t) false (length p.buses) (pulls_look_down p t r.0 r.1) (down_from-at_most (length p.buses) r.0)
+    iterate-solves (down_from (length p.buses) r.0) (pulled_by p t) false (length p.buses) (pulls_look_down p t r.0 r.1) (down_from-at_most (length p.buses) r.0)
 
-pub pulled-only : (p : PlanData) (t : ℕ) → HasNoCycle p.buses → (v : ℕ → Bool) → Keeps (pulled_by p t) v → (n : ℕ) → v n ≡ pulled p t n
+pub pulled-only : (p : PlanData) (t : ℕ) → HasNoCycle p.buses → (v : ℕ → Bool) → Solves (pulled_by p t) v → (n : ℕ) → v n ≡ pulled p t n
 unfolding pulled
-pulled-only p t none v keeps =
+pulled-only p t none v solves =
     let r = ranked p.buses none in
-    turns-only (down_from (length p.buses) r.0) (pulled_by p t) false (length p.buses) (pulls_look_down p t r.0 r.1) (down_from-at_most (length p.buses) r.0) v keeps
+    iterate-only (down_from (length p.buses) r.0) (pulled_by p t) false (length p.buses) (pulls_look_down p t r.0 r.1) (down_from-at_most (length p.buses) r.0) v solves
 
 pub pulled-reordered : (p : PlanData) (buses : List Bus) (t n : ℕ) → IsPermutation p.buses buses → pulled (record { nodes = p.nodes; buses = buses }) t n ≡ pulled p t n
 unfolding pulled
 pulled-reordered p buses t n moved =
     let q : PlanData = record { nodes = p.nodes; buses = buses } in
     let count = length_permutation p.buses buses moved in
-    ap (λ k. turns (pulled_by q t) false (suc k) n) count
-    ∙ turns-same (pulled_by q t) (pulled_by p t) false
+    ap (λ k. iterate (pulled_by q t) false (suc k) n) count
+    ∙ iterate-same (pulled_by q t) (pulled_by p t) false
     (λ v w same k.
     ap (λ x. eqb k (endpoint p) || (is_active t (node p k) && x))
     (sym (list_any-IsPermutation (λ (b : Bus). eqb b.node k && target_passes v b.to) p.buses buses moved)

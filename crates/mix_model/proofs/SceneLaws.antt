@@ -14,18 +14,18 @@ use Rattle.scene_model.specs.SceneData.{SceneData}
 use Rattle.scene_model.specs.Times.{edits_at, plan_before, plan}
 use Rattle.mix_fixed.specs.Sound.{sat24}
 use Rattle.mix_model.specs.Laws.{NoneAttached, with_edits, NoneSeeks, IsUntouched}
-use Rattle.mix_model.specs.Mix.{clips_of, node_frames, sought, moved, next_cursor, cursor_before, cursor, moment, mix}
+use Rattle.mix_model.specs.Mix.{clips_of, node_frames, cursor_after_edit, next_frame, next_cursor, cursor_before, cursor, frame_state, mix}
 use Rattle.mix_model.specs.Pulled.{node, endpoint, pulled}
-use Rattle.mix_model.specs.Signals.{Moment, input_by, input, frame}
-use Rattle.mix_model.specs.Turns.{turns}
+use Rattle.mix_model.specs.Signals.{FrameState, input_by, input, frame}
+use Rattle.mix_model.specs.Iteration.{iterate}
 use Rattle.mix_model.proofs.Sums.{front_whole}
 
 -- ---- silence
 
-pub input_none : (m : Moment) (channel n : ℕ) → NoneAttached m.plan.buses n → input m channel n ≡ pos 0
-unfolding input turns
+pub input_none : (m : FrameState) (channel n : ℕ) → NoneAttached m.plan.buses n → input m channel n ≡ pos 0
+unfolding input iterate
 input_none m channel n none =
-    let v = turns (input_by m channel) (pos 0) (length m.plan.buses) in
+    let v = iterate (input_by m channel) (pos 0) (length m.plan.buses) in
     ap sat24 (sym (front_whole m channel v n m.plan.buses 0 (λ k le inside. none k _ inside)))
 
 map_zero : (f : ℕ → ℤ) (ts : List ℕ) → ((t : ℕ) → f t ≡ pos 0) → map f ts ≡ replicate (length ts) (pos 0)
@@ -50,10 +50,10 @@ pub mix_none : (s : SceneData) (files : List (List ℕ)) → ((t : ℕ) → t < 
 unfolding mix
 mix_none s files none =
     let clips = clips_of s files in
-    map_range (λ t. frame (moment clips s t) s.channels) (λ t. replicate s.channels (pos 0)) 0 s.length
+    map_range (λ t. frame (frame_state clips s t) s.channels) (λ t. replicate s.channels (pos 0)) 0 s.length
     (λ t least below.
-    map_range (λ channel. input (moment clips s t) channel (endpoint (plan s t))) (λ channel. pos 0) 0 s.channels
-    (λ channel low high. input_none (moment clips s t) channel (endpoint (plan s t)) (none t (omega arith)))
+    map_range (λ channel. input (frame_state clips s t) channel (endpoint (plan s t))) (λ channel. pos 0) 0 s.channels
+    (λ channel low high. input_none (frame_state clips s t) channel (endpoint (plan s t)) (none t (omega arith)))
     ∙ map_const (pos 0) 0 s.channels)
     ∙ map_const (replicate s.channels (pos 0)) 0 s.length
 
@@ -76,31 +76,31 @@ unfolding cursor_before
 cursors_same clips s rows n same zero le = refl
 cursors_same clips s rows n same (suc t) le =
     let frames = node_frames clips s n in
-    ap (λ p. next_cursor p t n frames (fold (sought n frames) (cursor_before clips (with_edits s rows) n t) (edits_at rows t))) (plan_same s rows same t (omega arith))
-    ∙ ap (λ es. next_cursor (plan s t) t n frames (fold (sought n frames) (cursor_before clips (with_edits s rows) n t) es)) (same t (omega arith))
-    ∙ ap (λ c. next_cursor (plan s t) t n frames (fold (sought n frames) c (edits_at s.edits t))) (cursors_same clips s rows n same t (omega arith))
+    ap (λ p. next_cursor p t n frames (fold (cursor_after_edit n frames) (cursor_before clips (with_edits s rows) n t) (edits_at rows t))) (plan_same s rows same t (omega arith))
+    ∙ ap (λ es. next_cursor (plan s t) t n frames (fold (cursor_after_edit n frames) (cursor_before clips (with_edits s rows) n t) es)) (same t (omega arith))
+    ∙ ap (λ c. next_cursor (plan s t) t n frames (fold (cursor_after_edit n frames) c (edits_at s.edits t))) (cursors_same clips s rows n same t (omega arith))
 
 cursor_same : (clips : List SceneClipData) (s : SceneData) (rows : List EditRow) → ((t : ℕ) → t < s.length → edits_at rows t ≡ edits_at s.edits t) → (t : ℕ) → t < s.length → (n : ℕ) → cursor clips (with_edits s rows) n t ≡ cursor clips s n t
 cursor_same clips s rows same t lt n =
     let frames = node_frames clips s n in
-    ap (λ es. fold (sought n frames) (cursor_before clips (with_edits s rows) n t) es) (same t lt)
-    ∙ ap (λ c. fold (sought n frames) c (edits_at s.edits t)) (cursors_same clips s rows n same t (omega arith))
+    ap (λ es. fold (cursor_after_edit n frames) (cursor_before clips (with_edits s rows) n t) es) (same t lt)
+    ∙ ap (λ c. fold (cursor_after_edit n frames) c (edits_at s.edits t)) (cursors_same clips s rows n same t (omega arith))
 
-moment_same : (clips : List SceneClipData) (s : SceneData) (rows : List EditRow) → ((t : ℕ) → t < s.length → edits_at rows t ≡ edits_at s.edits t) → (t : ℕ) → t < s.length → moment clips (with_edits s rows) t ≡ moment clips s t
-moment_same clips s rows same t lt =
+frame_state_same : (clips : List SceneClipData) (s : SceneData) (rows : List EditRow) → ((t : ℕ) → t < s.length → edits_at rows t ≡ edits_at s.edits t) → (t : ℕ) → t < s.length → frame_state clips (with_edits s rows) t ≡ frame_state clips s t
+frame_state_same clips s rows same t lt =
     let places : ◌≡◌ {A = ℕ → ℕ} (λ n. cursor clips (with_edits s rows) n t) (λ n. cursor clips s n t) = λ j. λ n. cursor_same clips s rows same t lt n j in
     ap (λ p. with_parts p (λ n. cursor clips (with_edits s rows) n t)) (plan_same s rows same t lt)
     ∙ ap (with_parts (plan s t)) places
   where
-    with_parts : PlanData → (ℕ → ℕ) → Moment
+    with_parts : PlanData → (ℕ → ℕ) → FrameState
     with_parts p c = record { plan = p; time = t; clips = clips; cursor = c }
 
 pub mix_same : (s : SceneData) (rows : List EditRow) (files : List (List ℕ)) → ((t : ℕ) → t < s.length → edits_at rows t ≡ edits_at s.edits t) → mix (with_edits s rows) files ≡ mix s files
 unfolding mix
 mix_same s rows files same =
     let clips = clips_of s files in
-    map_range (λ t. frame (moment clips (with_edits s rows) t) s.channels) (λ t. frame (moment clips s t) s.channels) 0 s.length
-    (λ t least below. ap (λ m. frame m s.channels) (moment_same clips s rows same t (omega arith)))
+    map_range (λ t. frame (frame_state clips (with_edits s rows) t) s.channels) (λ t. frame (frame_state clips s t) s.channels) 0 s.length
+    (λ t least below. ap (λ m. frame m s.channels) (frame_state_same clips s rows same t (omega arith)))
 
 one_past : (row : EditRow) (t : ℕ) → (row.at ≡ t → ⊥) → filter (λ (r : EditRow). eqb r.at t) (row ∷ []) ≡ []
 one_past row t other = by_test (eqb row.at t) refl
@@ -116,26 +116,26 @@ edit_past s row past t lt =
 
 -- ---- sounds that are left alone
 
-sought_same : (n frames c : ℕ) (e : Edit) → ((place : ℕ) → e ≢ Seek n place) → sought n frames c e ≡ c
-sought_same n frames c (Seek target place) other = by_test (eqb target n) refl
+cursor_after_edit_same : (n frames c : ℕ) (e : Edit) → ((place : ℕ) → e ≢ Seek n place) → cursor_after_edit n frames c e ≡ c
+cursor_after_edit_same n frames c (Seek target place) other = by_test (eqb target n) refl
   where
     by_test : (t : Bool) → eqb target n ≡ t → (if t then min place frames else c) ≡ c
     by_test true e = absurd (other place (ap (λ k. Seek k place) (eqb-true target n e)))
     by_test false e = refl
-sought_same n frames c (Attach target out to) other = refl
-sought_same n frames c (Detach target out) other = refl
-sought_same n frames c (SetGain target out gain) other = refl
-sought_same n frames c (Start target) other = refl
-sought_same n frames c (Stop target) other = refl
-sought_same n frames c (From target value) other = refl
-sought_same n frames c (Until target value) other = refl
-sought_same n frames c (Loop target on) other = refl
+cursor_after_edit_same n frames c (Attach target out to) other = refl
+cursor_after_edit_same n frames c (Detach target out) other = refl
+cursor_after_edit_same n frames c (SetGain target out gain) other = refl
+cursor_after_edit_same n frames c (Start target) other = refl
+cursor_after_edit_same n frames c (Stop target) other = refl
+cursor_after_edit_same n frames c (From target value) other = refl
+cursor_after_edit_same n frames c (Until target value) other = refl
+cursor_after_edit_same n frames c (Loop target on) other = refl
 
-sought_all : (n frames c : ℕ) (es : List Edit) → NoneSeeks n es → fold (sought n frames) c es ≡ c
-sought_all n frames c [] none = refl
-sought_all n frames c (e ∷ es) none =
+pub cursor_after_edit_all : (n frames c : ℕ) (es : List Edit) → NoneSeeks n es → fold (cursor_after_edit n frames) c es ≡ c
+cursor_after_edit_all n frames c [] none = refl
+cursor_after_edit_all n frames c (e ∷ es) none =
     let P = λ (x : Edit). (place : ℕ) → x ≢ Seek n place in
-    ap (λ k. fold (sought n frames) k es) (sought_same n frames c e (All-head P e es none)) ∙ sought_all n frames c es (All-tail P e es none)
+    ap (λ k. fold (cursor_after_edit n frames) k es) (cursor_after_edit_same n frames c e (All-head P e es none)) ∙ cursor_after_edit_all n frames c es (All-tail P e es none)
 
 left_alone : (clips : List SceneClipData) (s : SceneData) (n t : ℕ) → ((u : ℕ) → u < t → NoneSeeks n (edits_at s.edits u)) → ((u : ℕ) → u < t → pulled (plan s u) u n ≡ false) → cursor_before clips s n t ≡ 0
 unfolding cursor_before
@@ -143,11 +143,11 @@ left_alone clips s n zero none still = refl
 left_alone clips s n (suc t) none still =
     let frames = node_frames clips s n in
     let rest = left_alone clips s n t (λ u below. none u (omega arith)) (λ u below. still u (omega arith)) in
-    let c = fold (sought n frames) (cursor_before clips s n t) (edits_at s.edits t) in
-    ap (λ (b : Bool). if b then moved frames (node (plan s t) n).looped c else c) (still t (omega arith))
-    ∙ sought_all n frames (cursor_before clips s n t) (edits_at s.edits t) (none t (omega arith)) ∙ rest
+    let c = fold (cursor_after_edit n frames) (cursor_before clips s n t) (edits_at s.edits t) in
+    ap (λ (b : Bool). if b then next_frame frames (node (plan s t) n).looped c else c) (still t (omega arith))
+    ∙ cursor_after_edit_all n frames (cursor_before clips s n t) (edits_at s.edits t) (none t (omega arith)) ∙ rest
 
 pub untouched : (clips : List SceneClipData) (s : SceneData) (n t : ℕ) → IsUntouched s n t → cursor clips s n t ≡ 0
 untouched clips s n t is =
-    sought_all n (node_frames clips s n) (cursor_before clips s n t) (edits_at s.edits t) (is.not_sought t (omega arith))
+    cursor_after_edit_all n (node_frames clips s n) (cursor_before clips s n t) (edits_at s.edits t) (is.not_sought t (omega arith))
     ∙ left_alone clips s n t (λ u below. is.not_sought u (omega arith)) is.not_pulled

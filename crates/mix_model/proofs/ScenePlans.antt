@@ -22,7 +22,7 @@ use Rattle.scene_model.specs.SceneData.{SceneData}
 use Rattle.scene_model.specs.Times.{edits_at, plan_before, plan}
 use Rattle.scene_model.proofs.Kept.{outputs_after}
 use Rattle.scene_model.proofs.PlanStays.{length-after, length-after_row}
-use Rattle.mix_model.specs.Wires.{IsOrdered, AreWires}
+use Rattle.mix_model.specs.OrderedBuses.{IsOrdered, AreOrderedBuses}
 
 -- ---- nodes
 
@@ -75,21 +75,21 @@ buses_most s t is = rw (buses_run (plan_before s t) (edits_at s.edits t), buses_
 
 -- ---- an order of a plan's buses
 
-path_moved : (buses wires : List Bus) → IsPermutation wires buses → (path : List Bus) (a b : ℕ) → Path wires a path b → Path buses a path b
-path_moved buses wires moved [] a b same = same
-path_moved buses wires moved (x ∷ path) a b (next, step, rest) =
-    (next, record { among = Contains-permutation wires buses x moved step.among; node_is = step.node_is; to_is = step.to_is }, path_moved buses wires moved path next b rest)
+path_moved : (buses ordered_buses : List Bus) → IsPermutation ordered_buses buses → (path : List Bus) (a b : ℕ) → Path ordered_buses a path b → Path buses a path b
+path_moved buses ordered_buses moved [] a b same = same
+path_moved buses ordered_buses moved (x ∷ path) a b (next, step, rest) =
+    (next, record { among = Contains-permutation ordered_buses buses x moved step.among; node_is = step.node_is; to_is = step.to_is }, path_moved buses ordered_buses moved path next b rest)
 
-no_cycle_moved : (buses wires : List Bus) → IsPermutation buses wires → HasNoCycle buses → HasNoCycle wires
-no_cycle_moved buses wires moved none n b path way = none n b path (path_moved buses wires (IsPermutation-sym buses wires moved) (b ∷ path) n n way)
+no_cycle_moved : (buses ordered_buses : List Bus) → IsPermutation buses ordered_buses → HasNoCycle buses → HasNoCycle ordered_buses
+no_cycle_moved buses ordered_buses moved none n b path way = none n b path (path_moved buses ordered_buses (IsPermutation-sym buses ordered_buses moved) (b ∷ path) n n way)
 
-pub wires_are : (p : PlanData) (wires : List Bus) → IsPlan p → length p.buses ≤ limits.most_buses → IsPermutation p.buses wires → IsOrdered wires → AreWires (length p.nodes) wires
-wires_are p wires is most moved ordered = record {
+pub ordered_buses_are : (p : PlanData) (ordered_buses : List Bus) → IsPlan p → length p.buses ≤ limits.most_buses → IsPermutation p.buses ordered_buses → IsOrdered ordered_buses → AreOrderedBuses (length p.nodes) ordered_buses
+ordered_buses_are p ordered_buses is most moved ordered = record {
   ordered = ordered;
-  no_cycle = no_cycle_moved p.buses wires moved is.no_cycle;
-  buses_are = All-permutation (IsBusOf (length p.nodes)) p.buses wires moved is.buses_are;
-  gains_most = All-permutation (λ (b : Bus). b.gain ≤ limits.most_gain) p.buses wires moved is.gains_most;
-  buses_most = rw (length_permutation p.buses wires moved) most;
+  no_cycle = no_cycle_moved p.buses ordered_buses moved is.no_cycle;
+  buses_are = All-permutation (IsBusOf (length p.nodes)) p.buses ordered_buses moved is.buses_are;
+  gains_most = All-permutation (λ (b : Bus). b.gain ≤ limits.most_gain) p.buses ordered_buses moved is.gains_most;
+  buses_most = rw (length_permutation p.buses ordered_buses moved) most;
 }
 
 pub within_most : (p : PlanData) → IsPlan p → (k : ℕ) (d : Bus) → k < length p.buses → IsBusOf limits.most_nodes (get_or p.buses k d)

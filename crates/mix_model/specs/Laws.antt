@@ -1,16 +1,16 @@
 -- What the laws of the mix speak of.
-use Rattle.std.specs.Prelude.{◌≡◌, ◌≢◌, ◌<◌, ◌≤◌, ℕ, false, List, All, Some}
+use Rattle.std.specs.Prelude.{◌≡◌, ◌≢◌, ◌<◌, ◌≤◌, ℕ, Bool, true, false, List, All, Some}
 use Rattle.scene_model.specs.declared.bus.Bus.{Bus}
 use Rattle.scene_model.specs.declared.edit.Edit.{Edit}
 use Rattle.scene_model.specs.declared.edit.Edit.TheVariants.{Seek}
 use Rattle.scene_model.specs.declared.edit.EditRow.{EditRow}
 use Rattle.scene_model.specs.SceneData.{SceneData}
 use Rattle.scene_model.specs.Times.{edits_at, plan}
-use Rattle.mix_model.specs.Pulled.{pulled}
-use Rattle.mix_model.specs.Signals.{Moment}
+use Rattle.mix_model.specs.Pulled.{node, pulled}
+use Rattle.mix_model.specs.Signals.{FrameState}
 
--- the moment with these buses in its plan
-abbrev pub with_buses : Moment → List Bus → Moment
+-- the state with these buses in its plan
+abbrev pub with_buses : FrameState → List Bus → FrameState
 with_buses m buses = record m { plan = record m.plan { buses = buses } }
 
 -- no bus is attached to node n
@@ -29,3 +29,9 @@ NoneSeeks n edits = All (λ (e : Edit). (place : ℕ) → e ≢ Seek n place) ed
 pub record IsUntouched (s : SceneData) (n t : ℕ) : Type 0 where
   pub not_sought : (u : ℕ) → u ≤ t → NoneSeeks n (edits_at s.edits u)
   pub not_pulled : (u : ℕ) → u < t → pulled (plan s u) u n ≡ false
+
+-- up to frame t node n wasn't sought, and before it always pulled, looped or not
+pub record PlaysOn (s : SceneData) (n t : ℕ) (looped : Bool) : Type 0 where
+  pub not_sought : (u : ℕ) → u ≤ t → NoneSeeks n (edits_at s.edits u)
+  pub is_pulled : (u : ℕ) → u < t → pulled (plan s u) u n ≡ true
+  pub looped_is : (u : ℕ) → u < t → (node (plan s u) n).looped ≡ looped

@@ -1,7 +1,10 @@
 pub mod Depths
 pub mod Due
+pub mod FaultText
+pub mod Iteration
 pub mod Laws
 pub mod Mix
+pub mod OrderedBuses
 pub mod Output
 pub mod Playing
 pub mod Pulled
@@ -9,5 +12,3 @@ pub mod Rendering
 pub mod Signals
 pub mod Sizes
 pub mod Summary
-pub mod Turns
-pub mod Wires

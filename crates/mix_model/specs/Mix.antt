@@ -13,7 +13,7 @@ use Rattle.scene_model.specs.PlanData.{PlanData}
 use Rattle.scene_model.specs.SceneData.{SceneData}
 use Rattle.scene_model.specs.Times.{edits_at, plan}
 use Rattle.mix_model.specs.Pulled.{node, pulled}
-use Rattle.mix_model.specs.Signals.{Moment, frame}
+use Rattle.mix_model.specs.Signals.{FrameState, frame}
 
 -- the clips of the resources' files, at the scene's rate and channels
 abbrev pub clips_of : SceneData → List (List ℕ) → List SceneClipData
@@ -34,43 +34,43 @@ node_frames clips s n = option_map_or (λ (x : Node). kind_frames clips x.kind) 
 
 -- The cursor of node n, which plays so many frames, after an edit: a seek of the node sets it to the place, or to the
 -- clip's end where that comes first. (A group or a splitter plays none, so a seek of it, which is refused, leaves 0.)
-abbrev pub sought : ℕ → ℕ → ℕ → Edit → ℕ
-sought n frames cursor (Seek target place) = if target == n then min place frames else cursor
-sought n frames cursor (Attach target out to) = cursor
-sought n frames cursor (Detach target out) = cursor
-sought n frames cursor (SetGain target out gain) = cursor
-sought n frames cursor (Start target) = cursor
-sought n frames cursor (Stop target) = cursor
-sought n frames cursor (From target value) = cursor
-sought n frames cursor (Until target value) = cursor
-sought n frames cursor (Loop target on) = cursor
+abbrev pub cursor_after_edit : ℕ → ℕ → ℕ → Edit → ℕ
+cursor_after_edit n frames cursor (Seek target place) = if target == n then min place frames else cursor
+cursor_after_edit n frames cursor (Attach target out to) = cursor
+cursor_after_edit n frames cursor (Detach target out) = cursor
+cursor_after_edit n frames cursor (SetGain target out gain) = cursor
+cursor_after_edit n frames cursor (Start target) = cursor
+cursor_after_edit n frames cursor (Stop target) = cursor
+cursor_after_edit n frames cursor (From target value) = cursor
+cursor_after_edit n frames cursor (Until target value) = cursor
+cursor_after_edit n frames cursor (Loop target on) = cursor
 
 -- the cursor after a frame that was played: the next frame, and at the clip's end its first where the sound loops
-abbrev pub moved : ℕ → Bool → ℕ → ℕ
-moved frames looped cursor = if nat_lt (cursor + 1) frames then cursor + 1 else (if looped then 0 else frames)
+abbrev pub next_frame : ℕ → Bool → ℕ → ℕ
+next_frame frames looped cursor = if nat_lt (cursor + 1) frames then cursor + 1 else (if looped then 0 else frames)
 
 -- the cursor of node n after frame t, in this plan: it moves where the node is pulled, and stays elsewhere
 abbrev pub next_cursor : PlanData → ℕ → ℕ → ℕ → ℕ → ℕ
-next_cursor p t n frames cursor = if pulled p t n then moved frames (node p n).looped cursor else cursor
+next_cursor p t n frames cursor = if pulled p t n then next_frame frames (node p n).looped cursor else cursor
 
 -- a cursor before the edits of frame t: it starts at 0, and goes on frame by frame
 unfoldable pub cursor_before : List SceneClipData → SceneData → ℕ → ℕ → ℕ
 cursor_before clips s n zero = 0
 cursor_before clips s n (suc t) =
     next_cursor (plan s t) t n (node_frames clips s n)
-    (fold (sought n (node_frames clips s n)) (cursor_before clips s n t) (edits_at s.edits t))
+    (fold (cursor_after_edit n (node_frames clips s n)) (cursor_before clips s n t) (edits_at s.edits t))
 
--- and after them: the place that is heard at frame t
+-- and after them: the place that is played at frame t
 abbrev pub cursor : List SceneClipData → SceneData → ℕ → ℕ → ℕ
-cursor clips s n t = fold (sought n (node_frames clips s n)) (cursor_before clips s n t) (edits_at s.edits t)
+cursor clips s n t = fold (cursor_after_edit n (node_frames clips s n)) (cursor_before clips s n t) (edits_at s.edits t)
 
--- what frame t of a scene hangs on
-abbrev pub moment : List SceneClipData → SceneData → ℕ → Moment
-moment clips s t = record { plan = plan s t; time = t; clips = clips; cursor = λ n. cursor clips s n t }
+-- what frame t of a scene depends on
+abbrev pub frame_state : List SceneClipData → SceneData → ℕ → FrameState
+frame_state clips s t = record { plan = plan s t; time = t; clips = clips; cursor = λ n. cursor clips s n t }
 
 -- the frames from number `from` on, `count` of them: the endpoint's input in each of the scene's channels, in 24 bits
 abbrev pub frames_from : List SceneClipData → SceneData → ℕ → ℕ → List (List ℤ)
-frames_from clips s from count = map (λ t. frame (moment clips s t) s.channels) (range_with_len from count)
+frames_from clips s from count = map (λ t. frame (frame_state clips s t) s.channels) (range_with_len from count)
 
 -- The mix of a scene: all its frames, where the files are those of its resources, in their order.
 unfoldable pub mix : SceneData → List (List ℕ) → List (List ℤ)

@@ -9,7 +9,7 @@ use Rattle.scene_model.specs.Times.{plan_before, plan}
 use Rattle.mix_model.specs.declared.player.Player.{Player}
 use Rattle.mix_model.specs.Due.{IsNext, CanMakeAll}
 use Rattle.mix_model.specs.Mix.{node_frames, cursor_before, cursor}
-use Rattle.mix_model.specs.Wires.{IsOrdered}
+use Rattle.mix_model.specs.OrderedBuses.{IsOrdered}
 
 -- the player has the scene's edits in order, and the lengths of its clips, which have the scene's channels
 pub record IsPlayerOf (s : SceneData) (p : Player) : Type 0 where
@@ -26,8 +26,8 @@ pub record IsBefore (s : SceneData) (p : Player) : Type 0 where
   pub cursors_are : (n : ℕ) → slice_index p.cursors n ≡ cursor_before p.clips.items s n p.time
   pub next : IsNext p.edits p.time p.place
   pub can : CanMakeAll p.plan (drop p.place p.edits)
-  pub moved : IsPermutation p.plan.buses p.wires.items
-  pub ordered : IsOrdered p.wires.items
+  pub permutation : IsPermutation p.plan.buses p.ordered_buses.items
+  pub ordered : IsOrdered p.ordered_buses.items
 
 -- it stands after them
 pub record IsAt (s : SceneData) (p : Player) : Type 0 where
@@ -37,5 +37,5 @@ pub record IsAt (s : SceneData) (p : Player) : Type 0 where
   pub cursors_are : (n : ℕ) → slice_index p.cursors n ≡ cursor p.clips.items s n p.time
   pub next : IsNext p.edits (p.time + 1) p.place
   pub can : CanMakeAll p.plan (drop p.place p.edits)
-  pub moved : IsPermutation p.plan.buses p.wires.items
-  pub ordered : IsOrdered p.wires.items
+  pub permutation : IsPermutation p.plan.buses p.ordered_buses.items
+  pub ordered : IsOrdered p.ordered_buses.items

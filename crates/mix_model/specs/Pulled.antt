@@ -6,7 +6,7 @@ use Rattle.scene_model.specs.declared.node.NodeKind.TheVariants.{Sound}
 use Rattle.scene_model.specs.declared.node_state.NodeState.{NodeState}
 use Rattle.scene_model.specs.PlanData.{PlanData}
 use Rattle.scene_model.specs.Reach.{target_passes}
-use Rattle.mix_model.specs.Turns.{turns}
+use Rattle.mix_model.specs.Iteration.{iterate}
 
 -- what stands for a node that isn't there: one that is never started
 abbrev pub no_node : NodeState
@@ -31,7 +31,7 @@ leads_to_any buses test n = list_any (λ (b : Bus). b.node == n && target_passes
 abbrev pub pulled_by : PlanData → ℕ → (ℕ → Bool) → ℕ → Bool
 pulled_by p t is_pulled n = n == endpoint p || (is_active t (node p n) && leads_to_any p.buses is_pulled n)
 
--- Whether a node is pulled at frame t. A plan has no cycle, so no way through it takes a bus twice, and one turn more than
--- there are buses reaches everything: a law says that these values solve the rule's equations, and that no others do.
+-- Whether a node is pulled at frame t. A plan has no cycle, so no path through it takes a bus twice, and one iteration more
+-- than there are buses reaches everything: a law says that these values solve the rule's equations, and that no others do.
 unfoldable pub pulled : PlanData → ℕ → ℕ → Bool
-pulled p t = turns (pulled_by p t) false (suc (length p.buses))
+pulled p t = iterate (pulled_by p t) false (suc (length p.buses))

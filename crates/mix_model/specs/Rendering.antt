@@ -21,7 +21,7 @@ data_of s frames = packed s.width (interleaved frames)
 abbrev pub summary_of : SceneData → List (List ℤ) → Summary
 summary_of s frames = summary (interleaved frames) (data_of s frames)
 
--- the frames before that of the player, and what is told of them
+-- the frames before that of the player
 abbrev pub frames_before : SceneData → Blocks → List (List ℤ)
 frames_before s b = frames_from b.player.clips.items s 0 b.player.time
 
@@ -30,7 +30,10 @@ pub record IsRendered (s : SceneData) (b : Blocks) : Type 0 where
   pub summary_is : b.summary ≡ summary_of s (frames_before s b)
 
 -- the answer of a sink that ends a mix in this way
+abbrev pub fault_answer : MixFault → Put
+fault_answer SinkFault = Failed
+fault_answer OutOfMemory = PutOutOfMemory
+
 abbrev pub answer_of : {T : Type 0} → Result T MixFault → Put
 answer_of (Ok x) = Done
-answer_of (Err SinkFault) = Failed
-answer_of (Err OutOfMemory) = PutOutOfMemory
+answer_of (Err fault) = fault_answer fault

@@ -1,4 +1,4 @@
--- What is told of a rendering in a few numbers.
+-- The summary of a rendering.
 use Rattle.std.specs.Prelude.{ℕ, ◌%◌, ◌^◌, max, ℤ, List, fold, sum, unsigned_abs}
 use Rattle.mix_model.specs.declared.summary.Summary.{Summary}
 

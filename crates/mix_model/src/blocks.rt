@@ -17,16 +17,16 @@ use wave_write::pack;
 /// The most frames of a block.
 const BLOCK_FRAMES: u32 = 512;
 
-/// The frames of a scene, of which each block in turn is there as bytes.
+/// Renders a scene block by block, and holds the samples and the bytes of the current block.
 #[derive(Drop)]
 pub(crate) struct Blocks {
-    /// The scene before the frame after the block.
+    /// The player, at the first frame after the block.
     pub(crate) player: Player,
     /// The block's samples, interleaved.
     samples: Vec<i32>,
     /// The same, packed at the scene's width.
     pub(crate) bytes: Vec<u8>,
-    /// What is told of all frames so far.
+    /// The summary of all frames so far.
     pub(crate) summary: Summary,
 }
 
@@ -65,7 +65,7 @@ impl Blocks {
         pack(alloc, self.samples.as_slice(), scene.width, &mut self.bytes)?;
         self.summary = self
             .summary
-            .noted(self.samples.as_slice(), self.bytes.as_slice());
+            .extended(self.samples.as_slice(), self.bytes.as_slice());
         Ok(())
     }
 }

@@ -1,9 +1,9 @@
 //! Where the sounds are in their clips.
 
 ghost use Rattle.std.specs.Prelude.{◌≡◌, ◌<◌, ◌≤◌, ℕ, length, slice_index, slice_index_or, if◌then◌else◌};
-ghost use Rattle.mix_model.specs.Mix.{moved};
+ghost use Rattle.mix_model.specs.Mix.{next_frame};
 ghost use Rattle.mix_model.specs.Pulled.{no_node};
-ghost use Rattle.mix_model.specs.Wires.{mark_at, cursor_after};
+ghost use Rattle.mix_model.specs.OrderedBuses.{mark_at, cursor_after};
 
 use scene_model::NodeState;
 
@@ -23,7 +23,7 @@ pub(crate) fn advance(nodes: &[NodeState], marks: &[bool], frames: &[u64], curso
 
 /// The cursor after a frame: it moves on where the node is pulled.
 fn next(is_pulled: bool, frames: u64, looped: bool, cursor: u64) -> u64
-    ensures { result ≡ (if is_pulled then moved frames looped cursor else cursor) }
+    ensures { result ≡ (if is_pulled then next_frame frames looped cursor else cursor) }
 {
     if !is_pulled {
         cursor

@@ -3,12 +3,13 @@
 ghost use Rattle.std.specs.Prelude.{◌≡◌, ◌≤◌, ◌+◌, ℕ, length, drop, fold, slice_index};
 ghost use Rattle.scene_model.specs.Plans.{after};
 ghost use Rattle.mix_model.specs.Due.{due, IsNext, AreInOrder, CanMakeAll, SeeksBelow};
-ghost use Rattle.mix_model.specs.Mix.{sought};
+ghost use Rattle.mix_model.specs.Mix.{cursor_after_edit};
 
 use scene_model::{Edit, NumberedEdit, Plan, apply};
 
 /// Makes the edits of a frame, which begin at `place`: in the plan, and of the seeks in the cursors.
-/// `frames` has the length of each node's clip. The place of the first edit of a later frame.
+/// `frames` has the length of each node's clip. Answers the place of the first edit of a later
+/// frame.
 pub(crate) fn make_due(
     edits: &[NumberedEdit],
     place: usize,
@@ -25,7 +26,7 @@ pub(crate) fn make_due(
     ensures next { IsNext edits.now (time + 1) result }
     ensures plan { plan.new ≡ fold after plan.old (due edits.now time) }
     ensures cursors { (n : ℕ) → slice_index cursors.new n
-        ≡ fold (sought n (slice_index frames.now n)) (slice_index cursors.old n) (due edits.now time) }
+        ≡ fold (cursor_after_edit n (slice_index frames.now n)) (slice_index cursors.old n) (due edits.now time) }
     ensures can { CanMakeAll plan.new (drop result edits.now) }
 {
     let mut next = place;
@@ -44,7 +45,7 @@ fn seek(edit: &Edit, frames: &[u64], cursors: &mut [u64])
     requires node { SeeksBelow (length cursors.old) edit.now }
     requires frames { length frames.now ≡ length cursors.old }
     ensures { (n : ℕ) → slice_index cursors.new n
-        ≡ sought n (slice_index frames.now n) (slice_index cursors.old n) edit.now }
+        ≡ cursor_after_edit n (slice_index frames.now n) (slice_index cursors.old n) edit.now }
 {
     if let Edit::Seek { node, place } = *edit {
         cursors[node as usize] = place.min(frames[node as usize]);

@@ -5,40 +5,40 @@ ghost use Rattle.mix_fixed.specs.Sound.{Is24, IsScaled, sat24, scale, largest_ga
 ghost use Rattle.scene_model.specs.declared.bus.Bus.{Bus as ABus};
 ghost use Rattle.scene_model.specs.IsPlan.{IsBusOf};
 ghost use Rattle.mix_model.specs.Pulled.{no_node, is_active as active};
-ghost use Rattle.mix_model.specs.Signals.{heard, given, input};
-ghost use Rattle.mix_model.specs.Wires.{moment_of, AreWires, HaveChannel, sum_at, IsPoured, AreWithin};
+ghost use Rattle.mix_model.specs.Signals.{clip_sample_at, kind_output, input};
+ghost use Rattle.mix_model.specs.OrderedBuses.{frame_state_of, AreOrderedBuses, HaveChannel, sum_at, ShareAdded, AreWithin};
 
 use mix_fixed::{Gain, sat24, scale};
 use scene_clips::SceneClip;
 use scene_model::{Bus, NodeKind, NodeState};
 
 /// Computes the input of each node and of the endpoint, before saturation, in one channel. The
-/// buses are in an order in which no bus leads to its own node or to that of a bus before it, so
-/// that each sum is whole before it is handed on, and each bus is looked at once.
+/// buses are in a topological order, so that each sum is whole before it is passed on, and each bus
+/// is looked at once.
 pub(crate) fn inputs(
     nodes: &[NodeState],
-    wires: &[Bus],
+    ordered_buses: &[Bus],
     clips: &[SceneClip],
     cursors: &[u64],
     time: u32,
     channel: u8,
     sums: &mut [i64],
 )
-    requires wires { AreWires (length nodes.now) wires.now }
+    requires ordered_buses { AreOrderedBuses (length nodes.now) ordered_buses.now }
     requires cursors { length nodes.now ≤ length cursors.now }
     requires sums { length nodes.now < length sums.old }
     requires clips { HaveChannel channel clips.now }
     ensures { (n : ℕ) → n ≤ length nodes.now →
-        sat24 (sum_at sums.new n) ≡ input (moment_of nodes.now wires.now time clips.now cursors.now) channel n }
+        sat24 (sum_at sums.new n) ≡ input (frame_state_of nodes.now ordered_buses.now time clips.now cursors.now) channel n }
 {
     sums.fill(0);
-    for wire in wires {
-        pour(nodes, clips, cursors, time, channel, wire, sums);
+    for bus in ordered_buses {
+        add_share(nodes, clips, cursors, time, channel, bus, sums);
     }
 }
 
-/// Adds to the sum of the node that a bus is attached to what the bus hands on.
-fn pour(
+/// Adds a bus's share to the sum of the node to which it is attached.
+fn add_share(
     nodes: &[NodeState],
     clips: &[SceneClip],
     cursors: &[u64],
@@ -53,8 +53,8 @@ fn pour(
     requires sums { length nodes.now < length sums.old }
     requires clips { HaveChannel channel clips.now }
     requires within { AreWithin 1024 sums.old }
-    ensures poured { (buses : List ABus) →
-        IsPoured (moment_of nodes.now buses time clips.now cursors.now) channel bus.now sums.old sums.new }
+    ensures added { (buses : List ABus) →
+        ShareAdded (frame_state_of nodes.now buses time clips.now cursors.now) channel bus.now sums.old sums.new }
     ensures within { (count : ℕ) → AreWithin count sums.old → AreWithin (count + 1) sums.new }
 {
     let Some(to) = bus.to else { return };
@@ -65,7 +65,7 @@ fn pour(
     sums[to as usize] += i64::from(share);
 }
 
-/// What a bus hands on of its node's output: that by its gain, or 0 where the node isn't active.
+/// What a bus passes on of its node's output: that by its gain, or 0 where the node isn't active.
 fn share(node: &NodeState, time: u32, gain: u32, output: i32) -> i32
     requires output { Is24 output }
     requires gain { gain ≤ largest_gain }
@@ -86,7 +86,7 @@ fn share(node: &NodeState, time: u32, gain: u32, output: i32) -> i32
 fn output(node: &NodeState, clips: &[SceneClip], cursor: u64, channel: u8, input: i32) -> i32
     requires clips { HaveChannel channel clips.now }
     requires input { Is24 input }
-    ensures value { result ≡ given clips.now channel cursor input node.now.kind }
+    ensures value { result ≡ kind_output clips.now channel cursor input node.now.kind }
     ensures range { Is24 result }
 {
     match node.kind {
@@ -98,7 +98,7 @@ fn output(node: &NodeState, clips: &[SceneClip], cursor: u64, channel: u8, input
 /// A clip's sample at a place, and 0 at the clip's end.
 fn sample(clips: &[SceneClip], resource: u32, place: u64, channel: u8) -> i32
     requires { HaveChannel channel clips.now }
-    ensures value { result ≡ heard clips.now resource place channel }
+    ensures value { result ≡ clip_sample_at clips.now resource place channel }
     ensures range { Is24 result }
 {
     match clips.get(resource as usize) {

@@ -1,6 +1,6 @@
 //! Laws of the mix, for readers of its definitions. The functions do nothing.
 
-ghost use Rattle.std.specs.Prelude.{◌≡◌, ◌<◌, ◌≤◌, ◌++◌, [], ◌∷◌, ℕ, Bool, ℤ, pos, List, replicate};
+ghost use Rattle.std.specs.Prelude.{◌≡◌, ◌<◌, ◌≤◌, ◌+◌, ◌%◌, ◌++◌, [], ◌∷◌, ℕ, Bool, true, false, ℤ, pos, List, min, replicate};
 ghost use Rattle.std.specs.List.Sorted.{IsPermutation};
 ghost use Rattle.scene_clips.specs.SceneClipData.{SceneClipData};
 ghost use Rattle.scene_model.specs.declared.bus.Bus.{Bus};
@@ -9,30 +9,30 @@ ghost use Rattle.scene_model.specs.PlanData.{PlanData};
 ghost use Rattle.scene_model.specs.Reach.{HasNoCycle};
 ghost use Rattle.scene_model.specs.SceneData.{SceneData};
 ghost use Rattle.scene_model.specs.Times.{edits_at, plan};
-ghost use Rattle.mix_model.specs.Laws.{with_buses, NoneAttached, with_edits, IsUntouched};
-ghost use Rattle.mix_model.specs.Mix.{cursor, mix};
+ghost use Rattle.mix_model.specs.Laws.{with_buses, NoneAttached, with_edits, NoneSeeks, IsUntouched, PlaysOn};
+ghost use Rattle.mix_model.specs.Mix.{node_frames, cursor, mix};
 ghost use Rattle.mix_model.specs.Pulled.{endpoint, pulled_by, pulled};
-ghost use Rattle.mix_model.specs.Signals.{Moment, input_by, input};
-ghost use Rattle.mix_model.specs.Turns.{Keeps};
+ghost use Rattle.mix_model.specs.Signals.{FrameState, input_by, input};
+ghost use Rattle.mix_model.specs.Iteration.{Solves};
 
 /// A law: in a plan without a cycle, as every plan is, the inputs of all nodes solve their
 /// equations, and no other numbers do.
 pub fn inputs_have_one_solution()
-    ensures solved { (m : Moment) (channel : ℕ) → HasNoCycle m.plan.buses → Keeps (input_by m channel) (input m channel) }
-    ensures only { (m : Moment) (channel : ℕ) (values : ℕ → ℤ) → HasNoCycle m.plan.buses →
-        Keeps (input_by m channel) values → (n : ℕ) → values n ≡ input m channel n }
+    ensures solved { (m : FrameState) (channel : ℕ) → HasNoCycle m.plan.buses → Solves (input_by m channel) (input m channel) }
+    ensures only { (m : FrameState) (channel : ℕ) (values : ℕ → ℤ) → HasNoCycle m.plan.buses →
+        Solves (input_by m channel) values → (n : ℕ) → values n ≡ input m channel n }
 {}
 
 /// A law: in a plan without a cycle there is one answer to which nodes are pulled.
 pub fn pulls_have_one_solution()
-    ensures solved { (p : PlanData) (t : ℕ) → HasNoCycle p.buses → Keeps (pulled_by p t) (pulled p t) }
+    ensures solved { (p : PlanData) (t : ℕ) → HasNoCycle p.buses → Solves (pulled_by p t) (pulled p t) }
     ensures only { (p : PlanData) (t : ℕ) (values : ℕ → Bool) → HasNoCycle p.buses →
-        Keeps (pulled_by p t) values → (n : ℕ) → values n ≡ pulled p t n }
+        Solves (pulled_by p t) values → (n : ℕ) → values n ≡ pulled p t n }
 {}
 
 /// A law: inputs, and what is pulled, don't depend on the order in which buses are summed.
 pub fn the_order_of_buses_makes_no_difference()
-    ensures inputs { (m : Moment) (buses : List Bus) (channel n : ℕ) → IsPermutation m.plan.buses buses →
+    ensures inputs { (m : FrameState) (buses : List Bus) (channel n : ℕ) → IsPermutation m.plan.buses buses →
         input (with_buses m buses) channel n ≡ input m channel n }
     ensures pulls { (p : PlanData) (buses : List Bus) (t n : ℕ) → IsPermutation p.buses buses →
         pulled (record p { buses = buses }) t n ≡ pulled p t n }
@@ -41,7 +41,7 @@ pub fn the_order_of_buses_makes_no_difference()
 /// A law: a node to which no bus is attached has the input 0, and a scene in which no bus is ever
 /// attached to the endpoint is silence of its length.
 pub fn what_is_not_attached_is_silent()
-    ensures input { (m : Moment) (channel n : ℕ) → NoneAttached m.plan.buses n → input m channel n ≡ pos 0 }
+    ensures input { (m : FrameState) (channel n : ℕ) → NoneAttached m.plan.buses n → input m channel n ≡ pos 0 }
     ensures mix { (s : SceneData) (files : List (List ℕ)) →
         ((t : ℕ) → t < s.length → NoneAttached (plan s t).buses (endpoint (plan s t))) →
         mix s files ≡ replicate s.length (replicate s.channels (pos 0)) }
@@ -55,7 +55,19 @@ pub fn edits_past_the_end_change_nothing()
         mix (with_edits s (s.edits ++ row ∷ [])) files ≡ mix s files }
 {}
 
-/// A law: a node that was never pulled keeps its cursor at its first frame until it is sought.
+/// A law: a node that isn't pulled at a frame has the same cursor at the next one, unless it is
+/// sought there. So a node that was never pulled nor sought is at its first frame.
 pub fn what_is_not_pulled_does_not_move()
-    ensures { (clips : List SceneClipData) (s : SceneData) (n t : ℕ) → IsUntouched s n t → cursor clips s n t ≡ 0 }
+    ensures stays { (clips : List SceneClipData) (s : SceneData) (n t : ℕ) → pulled (plan s t) t n ≡ false →
+        NoneSeeks n (edits_at s.edits (t + 1)) → cursor clips s n (t + 1) ≡ cursor clips s n t }
+    ensures first { (clips : List SceneClipData) (s : SceneData) (n t : ℕ) → IsUntouched s n t → cursor clips s n t ≡ 0 }
+{}
+
+/// A law: a sound that is pulled from frame 0 on and never sought plays its clip. At frame `t` it is
+/// at frame `t` of the clip, and stays at the clip's end; where it is looped, it starts again there.
+pub fn a_sound_plays_its_clip()
+    ensures once { (clips : List SceneClipData) (s : SceneData) (n t : ℕ) → PlaysOn s n t false →
+        cursor clips s n t ≡ min t (node_frames clips s n) }
+    ensures looped { (clips : List SceneClipData) (s : SceneData) (n t : ℕ) → PlaysOn s n t true → 0 < node_frames clips s n →
+        cursor clips s n t ≡ t % node_frames clips s n }
 {}

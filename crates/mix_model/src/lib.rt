@@ -1,18 +1,18 @@
-//! What a scene sounds like, as definitions, and the plainest body that meets them: it computes
-//! each frame from the nodes, without blocks or buffers.
+//! What a scene sounds like, as definitions, and a plain renderer that meets them: it computes each
+//! frame by itself from the nodes, and packs and writes 512 frames at a time.
 //!
 //! `specs/Mix.antt` says what the mix of a scene is. At frame `t` all edits of frames up to `t` are
 //! made. The input of a node is the sum, over all buses attached to it whose own node is active, of
 //! that node's output by the bus's gain, and this sum is brought back to 24 bits by saturation,
 //! once. The output of a group or a splitter is its input, that of a sound its clip's frame at its
 //! cursor (`specs/Signals.antt`). A cursor moves on after each frame at which its sound is pulled:
-//! active, and on some way to the endpoint (`specs/Pulled.antt`). The frames of the scene are the
+//! active, and on some path to the endpoint (`specs/Pulled.antt`). The frames of the scene are the
 //! endpoint's inputs, and `specs/Output.antt` says what WAVE file they make.
 //!
 //! [`plain_mix`] writes that file to a sink, and answers a [`Summary`] of it or a [`MixFault`]. The
-//! modules below it are the parts of a frame: the edits that are due, an order of the buses, inputs,
-//! what is pulled, cursors. The laws, functions that do nothing, say that the definitions hold what
-//! one would expect of a mix.
+//! modules below it are the parts of a frame: the edits that are due, a topological order of the
+//! buses, inputs, what is pulled, cursors. The laws, functions that do nothing, say that the
+//! definitions hold what one would expect of a mix.
 #![tactic(auto)]
 
 mod blocks;
@@ -29,9 +29,9 @@ mod rendering;
 mod summary;
 
 pub use laws::{
-    edits_past_the_end_change_nothing, inputs_have_one_solution, pulls_have_one_solution,
-    the_order_of_buses_makes_no_difference, what_is_not_attached_is_silent,
-    what_is_not_pulled_does_not_move,
+    a_sound_plays_its_clip, edits_past_the_end_change_nothing, inputs_have_one_solution,
+    pulls_have_one_solution, the_order_of_buses_makes_no_difference,
+    what_is_not_attached_is_silent, what_is_not_pulled_does_not_move,
 };
 pub use mix_fault::MixFault;
 pub use rendering::plain_mix;

@@ -1,3 +1,4 @@
+use plain_data::OutOfMemory;
 use std::error::Error;
 use std::fmt;
 
@@ -11,6 +12,11 @@ pub enum MixFault {
 }
 
 impl fmt::Display for MixFault {
+    ghost use Rattle.std.specs.Prelude.{Some};
+    ghost use Rattle.mix_model.specs.FaultText.{fault_text};
+
+    ghost output = { λ fault. Some (fault_text fault) };
+
     fn fmt<W: fmt::Write>(&self, f: &mut fmt::Formatter<W>) -> fmt::Result {
         match self {
             MixFault::SinkFault => f.write_str("the sink failed"),
@@ -20,3 +26,14 @@ impl fmt::Display for MixFault {
 }
 
 impl Error for MixFault {}
+
+impl From<OutOfMemory> for MixFault {
+    ghost use Rattle.std.specs.Prelude.{◌≡◌};
+    ghost use Rattle.mix_model.specs.declared.mix_fault.MixFault.TheVariants.{OutOfMemory as NoMemory};
+
+    ghost from_gives = { λ _ fault. fault ≡ NoMemory };
+
+    fn from(_: OutOfMemory) -> Self {
+        MixFault::OutOfMemory
+    }
+}

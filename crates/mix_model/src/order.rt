@@ -1,11 +1,11 @@
-//! An order of buses in which each input is whole before it is handed on.
+//! A topological order of the buses: each input is whole before it is passed on.
 
 ghost use Rattle.std.specs.Prelude.{◌≡◌, ◌<◌, true, false, ◌≤◌, ℕ, length, All, IfOk, sum};
 ghost use Rattle.std.specs.List.Sorted.{IsPermutation};
 ghost use Rattle.scene_model.specs.IsPlan.{IsBusOf};
 ghost use Rattle.scene_model.specs.Limits as limits;
 ghost use Rattle.scene_model.specs.Reach.{HasNoCycle};
-ghost use Rattle.mix_model.specs.Wires.{IsOrdered};
+ghost use Rattle.mix_model.specs.OrderedBuses.{IsOrdered};
 ghost use Rattle.mix_model.specs.Depths.{depth_at, AreAtMost, AllRise, Rises, StaysBelow, IsDeeper};
 
 use plain_data::OutOfMemory;
@@ -15,22 +15,22 @@ use std::alloc::Global;
 /// One more than the greatest number of nodes of a plan, for the endpoint.
 pub(crate) const MAX_INPUTS: usize = 129;
 
-/// The buses of a plan in an order in which no bus leads to its own node or to that of a bus before
-/// it: by the greatest number of buses on a way to their node.
-pub(crate) fn in_order(alloc: Global, buses: &[Bus]) -> Result<Vec<Bus>, OutOfMemory>
+/// The buses of a plan in a topological order: no bus leads to its own node or to that of a bus
+/// before it. It goes by the length of the longest path to their node.
+pub(crate) fn topological_order(alloc: Global, buses: &[Bus]) -> Result<Vec<Bus>, OutOfMemory>
     requires buses { All (IsBusOf limits.most_nodes) buses.now }
     requires no_cycle { HasNoCycle buses.now }
     requires most { length buses.now ≤ limits.most_buses }
-    ensures moved { IfOk result (λ wires. IsPermutation buses.now wires.items) }
-    ensures ordered { IfOk result (λ wires. IsOrdered wires.items) }
+    ensures permutation { IfOk result (λ ordered_buses. IsPermutation buses.now ordered_buses.items) }
+    ensures ordered { IfOk result (λ ordered_buses. IsOrdered ordered_buses.items) }
 {
     let depths = depths(buses);
-    let mut wires = Vec::from_slice(alloc, buses)?;
-    wires.sort_unstable_by_key(|bus| depth(&depths, bus.node));
-    Ok(wires)
+    let mut ordered_buses = Vec::from_slice(alloc, buses)?;
+    ordered_buses.sort_unstable_by_key(|bus| depth(&depths, bus.node));
+    Ok(ordered_buses)
 }
 
-/// For each node the greatest number of buses on a way to it.
+/// For each node the length of the longest path to it.
 fn depths(buses: &[Bus]) -> [u32; MAX_INPUTS]
     requires buses { All (IsBusOf limits.most_nodes) buses.now }
     requires no_cycle { HasNoCycle buses.now }
@@ -54,8 +54,8 @@ fn settle(buses: &[Bus], depths: &mut [u32])
     while deepen(buses, depths) {}
 }
 
-/// Brings the target of each bus deeper than its node, where it isn't yet. Whether there was one to
-/// bring.
+/// Brings the target of each bus deeper than its node, where it isn't yet. Answers whether one was
+/// changed.
 fn deepen(buses: &[Bus], depths: &mut [u32]) -> bool
     requires buses { All (IsBusOf limits.most_nodes) buses.now }
     requires most { length buses.now ≤ limits.most_buses }
@@ -74,7 +74,8 @@ fn deepen(buses: &[Bus], depths: &mut [u32]) -> bool
     is_deeper
 }
 
-/// Brings the target of a bus deeper than its node. Whether it wasn't yet.
+/// Brings the target of a bus deeper than its node, where it isn't yet. Answers whether it was
+/// changed.
 fn deepen_target(bus: &Bus, depths: &mut [u32]) -> bool
     requires bus { IsBusOf limits.most_nodes bus.now }
     requires depths { length depths.old ≡ 129 }

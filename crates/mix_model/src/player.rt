@@ -2,7 +2,7 @@
 
 ghost use Rattle.std.specs.Prelude.{◌≡◌, ◌<◌, ◌≤◌, ◌+◌, ◌++◌, All, length, map, IfOk};
 ghost use Rattle.clip_decode.specs.ClipData.{ClipData};
-ghost use Rattle.mix_model.specs.Mix.{clips_of, moment, frames_from};
+ghost use Rattle.mix_model.specs.Mix.{clips_of, frame_state, frames_from};
 ghost use Rattle.clip_decode.specs.Frames.{interleaved};
 ghost use Rattle.mix_model.specs.Playing.{IsBefore, IsAt};
 ghost use Rattle.mix_model.specs.Signals.{frame};
@@ -12,7 +12,7 @@ use crate::clips::{clip_lengths, decoded};
 use crate::cursors::advance;
 use crate::edits::make_due;
 use crate::frame::inputs;
-use crate::order::{MAX_INPUTS, in_order};
+use crate::order::{MAX_INPUTS, topological_order};
 use crate::pull::pull;
 use clip_decode::Clip;
 use mix_fixed::sat24;
@@ -33,8 +33,8 @@ pub(crate) struct Player {
     pub(crate) clips: Vec<SceneClip>,
     /// The edits of the scene in the order of their frames.
     edits: Rows<NumberedEdit>,
-    /// The plan's buses in an order in which no bus leads to the node of one before it.
-    wires: Vec<Bus>,
+    /// The plan's buses in a topological order.
+    ordered_buses: Vec<Bus>,
     /// The place of the first edit that isn't made yet.
     place: usize,
     /// The number of frames of each node's clip, 0 for a group or a splitter.
@@ -59,14 +59,14 @@ impl Player {
         let clips = decoded(alloc, scene, clips)?;
         let edits = edits_in_order(alloc, scene.edits.as_slice())?;
         let plan = Plan::opening(alloc, scene)?;
-        let wires = in_order(alloc, plan.buses())?;
+        let ordered_buses = topological_order(alloc, plan.buses())?;
         let frames = clip_lengths(scene, clips.as_slice());
         Ok(Player {
             time: 0,
             plan,
             clips,
             edits,
-            wires,
+            ordered_buses,
             place: 0,
             frames,
             cursors: [0; MAX_INPUTS],
@@ -109,7 +109,7 @@ impl Player {
         ensures before { IfOk result (λ _. IsBefore scene.now self.new) }
         ensures next { IfOk result (λ _. (self.new.time ≡ self.old.time + 1) × (self.new.clips.items ≡ self.old.clips.items)) }
         ensures samples { IfOk result (λ _. samples.new.items
-            ≡ samples.old.items ++ frame (moment self.old.clips.items scene.now self.old.time) scene.now.channels) }
+            ≡ samples.old.items ++ frame (frame_state self.old.clips.items scene.now self.old.time) scene.now.channels) }
     {
         self.edit(alloc, scene)?;
         self.sound(scene, samples)?;
@@ -130,7 +130,7 @@ impl Player {
         let cursors = self.cursors.as_mut_slice();
         let place = make_due(edits, self.place, self.time, plan, frames, cursors);
         if place != self.place {
-            self.wires = in_order(alloc, self.plan.buses())?;
+            self.ordered_buses = topological_order(alloc, self.plan.buses())?;
             self.place = place;
         }
         Ok(())
@@ -140,16 +140,24 @@ impl Player {
     fn sound(&mut self, scene: &Scene, samples: &mut Vec<i32>) -> Result<(), OutOfMemory>
         requires { IsAt scene.now self.old }
         ensures samples { IfOk result (λ _. samples.new.items
-            ≡ samples.old.items ++ frame (moment self.old.clips.items scene.now self.old.time) scene.now.channels) }
+            ≡ samples.old.items ++ frame (frame_state self.old.clips.items scene.now self.old.time) scene.now.channels) }
         ensures same { self.new ≡ record self.old { sums = self.new.sums } }
     {
         let nodes = self.plan.nodes();
-        let wires = self.wires.as_slice();
+        let ordered_buses = self.ordered_buses.as_slice();
         let clips = self.clips.as_slice();
         let cursors = self.cursors.as_slice();
         let sums = &mut self.sums.as_mut_slice()[..=nodes.len()];
         for channel in 0..scene.channels {
-            inputs(nodes, wires, clips, cursors, self.time, channel, sums);
+            inputs(
+                nodes,
+                ordered_buses,
+                clips,
+                cursors,
+                self.time,
+                channel,
+                sums,
+            );
             samples.push(sat24(sums[nodes.len()]))?;
         }
         Ok(())
@@ -163,7 +171,7 @@ impl Player {
     {
         let nodes = self.plan.nodes();
         let marks = &mut self.marks.as_mut_slice()[..=nodes.len()];
-        pull(nodes, self.wires.as_slice(), self.time, marks);
+        pull(nodes, self.ordered_buses.as_slice(), self.time, marks);
         advance(
             nodes,
             marks,

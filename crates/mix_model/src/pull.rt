@@ -3,22 +3,27 @@
 ghost use Rattle.std.specs.Prelude.{◌≡◌, ◌<◌, ◌≤◌, ℕ, [], length};
 ghost use Rattle.scene_model.specs.IsPlan.{IsBusOf};
 ghost use Rattle.mix_model.specs.Pulled.{pulled};
-ghost use Rattle.mix_model.specs.Wires.{plan_of, AreWires, mark_at, IsMarked};
+ghost use Rattle.mix_model.specs.OrderedBuses.{plan_of, AreOrderedBuses, mark_at, IsMarked};
 
 use crate::frame::is_active;
 use scene_model::{Bus, NodeState};
 
-/// Marks each node that is pulled, and the endpoint. The buses are in the order of `inputs`, and are
+/// Marks each node that is pulled, and the endpoint. The buses are in a topological order and are
 /// looked at from the last to the first, so that a target's mark is settled before it is asked for.
-pub(crate) fn pull(nodes: &[NodeState], wires: &[Bus], time: u32, marks: &mut [bool])
-    requires wires { AreWires (length nodes.now) wires.now }
+pub(crate) fn pull(nodes: &[NodeState], ordered_buses: &[Bus], time: u32, marks: &mut [bool])
+    requires ordered_buses { AreOrderedBuses (length nodes.now) ordered_buses.now }
     requires marks { length nodes.now < length marks.old }
-    ensures { (n : ℕ) → n ≤ length nodes.now → mark_at marks.new n ≡ pulled (plan_of nodes.now wires.now) time n }
+    ensures { (n : ℕ) → n ≤ length nodes.now → mark_at marks.new n ≡ pulled (plan_of nodes.now ordered_buses.now) time n }
 {
     marks.fill(false);
     marks[nodes.len()] = true;
-    for done in 0..wires.len() {
-        mark(nodes, &wires[wires.len() - 1 - done], time, marks);
+    for done in 0..ordered_buses.len() {
+        mark(
+            nodes,
+            &ordered_buses[ordered_buses.len() - 1 - done],
+            time,
+            marks,
+        );
     }
 }
 

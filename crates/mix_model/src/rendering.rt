@@ -14,7 +14,6 @@ use crate::blocks::Blocks;
 use crate::mix_fault::MixFault;
 use crate::summary::Summary;
 use clip_decode::Clip;
-use plain_data::OutOfMemory;
 use scene_model::Scene;
 use snd_io::{Put, Sink};
 use std::alloc::Global;
@@ -25,7 +24,8 @@ use wave_write::header;
 /// answer is the summary of the frames.
 ///
 /// `clips` are those of the scene's resources, in their order, each of at most 67,108,864 bytes.
-/// Every node is computed once a frame, in an order that is found anew only after edits.
+/// Each attached bus is taken once a frame and channel, in a topological order that is found anew
+/// only after edits.
 ///
 /// # Errors
 ///
@@ -45,38 +45,29 @@ pub fn plain_mix<S: Sink>(
     ensures summary { let frames = mix scene.now (map (λ (c : ClipData). c.bytes) clips.now) in
         IfOk result (λ summary. summary ≡ summary_of scene.now frames) }
 {
-    let mut blocks = match Blocks::new(alloc, scene, clips) {
-        Ok(blocks) => blocks,
-        Err(OutOfMemory) => return Err(MixFault::OutOfMemory),
-    };
-    match write_wav(alloc, scene, &mut blocks, sink) {
-        Put::Done => Ok(blocks.summary),
-        Put::Failed => Err(MixFault::SinkFault),
-        Put::OutOfMemory => Err(MixFault::OutOfMemory),
-    }
+    let mut blocks = Blocks::new(alloc, scene, clips)?;
+    write_wav(alloc, scene, &mut blocks, sink)?;
+    Ok(blocks.summary)
 }
 
 /// Writes the header, the frames and the pad byte if there is one.
-fn write_wav<S: Sink>(alloc: Global, scene: &Scene, blocks: &mut Blocks, sink: &mut S) -> Put
+fn write_wav<S: Sink>(
+    alloc: Global,
+    scene: &Scene,
+    blocks: &mut Blocks,
+    sink: &mut S,
+) -> Result<(), MixFault>
     requires rendered { IsRendered scene.now blocks.old }
     requires start { blocks.old.player.time ≡ 0 }
     ensures after { let frames = frames_from blocks.old.player.clips.items scene.now 0 scene.now.length in
-        Writes result (wav scene.now frames) (S.written sink.old) (S.written sink.new) }
-    ensures cause { CountsFaults (S.faults sink.old) (S.faults sink.new) (put_failed result) }
+        Writes (answer_of result) (wav scene.now frames) (S.written sink.old) (S.written sink.new) }
+    ensures cause { CountsFaults (S.faults sink.old) (S.faults sink.new) (put_failed (answer_of result)) }
     ensures summary { let frames = frames_from blocks.old.player.clips.items scene.now 0 scene.now.length in
-        result ≡ Put.Done → blocks.new.summary ≡ summary_of scene.now frames }
+        IfOk result (λ _. blocks.new.summary ≡ summary_of scene.now frames) }
 {
-    match sink.write(alloc, &scene_header(scene)) {
-        Put::Done => {}
-        Put::Failed => return Put::Failed,
-        Put::OutOfMemory => return Put::OutOfMemory,
-    }
-    match write_frames(alloc, scene, blocks, sink) {
-        Put::Done => {}
-        Put::Failed => return Put::Failed,
-        Put::OutOfMemory => return Put::OutOfMemory,
-    }
-    write_padding(alloc, scene, sink)
+    done(sink.write(alloc, &scene_header(scene)))?;
+    write_frames(alloc, scene, blocks, sink)?;
+    done(write_padding(alloc, scene, sink))
 }
 
 /// The header of a scene's file.
@@ -87,27 +78,25 @@ fn scene_header(scene: &Scene) -> [u8; 44]
 }
 
 /// Writes all frames, block by block.
-fn write_frames<S: Sink>(alloc: Global, scene: &Scene, blocks: &mut Blocks, sink: &mut S) -> Put
+fn write_frames<S: Sink>(
+    alloc: Global,
+    scene: &Scene,
+    blocks: &mut Blocks,
+    sink: &mut S,
+) -> Result<(), MixFault>
     requires rendered { IsRendered scene.now blocks.old }
     requires start { blocks.old.player.time ≡ 0 }
     ensures after { let frames = frames_from blocks.old.player.clips.items scene.now 0 scene.now.length in
-        Writes result (data_of scene.now frames) (S.written sink.old) (S.written sink.new) }
-    ensures cause { CountsFaults (S.faults sink.old) (S.faults sink.new) (put_failed result) }
+        Writes (answer_of result) (data_of scene.now frames) (S.written sink.old) (S.written sink.new) }
+    ensures cause { CountsFaults (S.faults sink.old) (S.faults sink.new) (put_failed (answer_of result)) }
     ensures summary { let frames = frames_from blocks.old.player.clips.items scene.now 0 scene.now.length in
-        result ≡ Put.Done → blocks.new.summary ≡ summary_of scene.now frames }
+        IfOk result (λ _. blocks.new.summary ≡ summary_of scene.now frames) }
 {
     while blocks.player.time < scene.length {
-        match blocks.next(alloc, scene) {
-            Ok(()) => {}
-            Err(OutOfMemory) => return Put::OutOfMemory,
-        }
-        match sink.write(alloc, blocks.bytes.as_slice()) {
-            Put::Done => {}
-            Put::Failed => return Put::Failed,
-            Put::OutOfMemory => return Put::OutOfMemory,
-        }
+        blocks.next(alloc, scene)?;
+        done(sink.write(alloc, blocks.bytes.as_slice()))?;
     }
-    Put::Done
+    Ok(())
 }
 
 /// Writes the zero byte that follows data of an odd size.
@@ -120,5 +109,16 @@ fn write_padding<S: Sink>(alloc: Global, scene: &Scene, sink: &mut S) -> Put
         sink.write(alloc, &[0])
     } else {
         Put::Done
+    }
+}
+
+/// What a write to the sink was answered, as a result.
+fn done(put: Put) -> Result<(), MixFault>
+    ensures { answer_of result ≡ put }
+{
+    match put {
+        Put::Done => Ok(()),
+        Put::Failed => Err(MixFault::SinkFault),
+        Put::OutOfMemory => Err(MixFault::OutOfMemory),
     }
 }

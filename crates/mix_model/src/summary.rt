@@ -1,7 +1,7 @@
 ghost use Rattle.std.specs.Prelude.{◌≡◌, ◌%◌, ◌+◌, ◌^◌, ℕ, ℤ, List, [], ◌++◌, sum, fold, max, unsigned_abs};
 ghost use Rattle.mix_model.specs.Summary as spec;
 
-/// A rendering in two numbers: two that differ in them differ, and the peak tells how loud it is.
+/// The peak and a checksum of a rendering. Renderings with different summaries are different.
 #[derive(Clone, Copy, Debug, PartialEq, Eq)]
 pub struct Summary {
     /// The greatest magnitude of the samples in 24 bits, 0 to 8388608, before they are packed.
@@ -12,7 +12,7 @@ pub struct Summary {
 
 impl Summary {
     /// The summary of no samples.
-    pub fn empty() -> Self
+    pub(crate) fn empty() -> Self
         ensures { result ≡ spec.summary [] [] }
     {
         Summary { peak: 0, sum: 0 }
@@ -20,7 +20,7 @@ impl Summary {
 
     /// The summary with these samples, and the bytes that they are packed in, after those that it
     /// was of.
-    pub fn noted(self, samples: &[i32], bytes: &[u8]) -> Self
+    pub(crate) fn extended(self, samples: &[i32], bytes: &[u8]) -> Self
         ensures { (before : List ℤ) (packed : List ℕ) → self ≡ spec.summary before packed → result ≡ spec.summary (before ++ samples.now) (packed ++ bytes.now) }
     {
         Summary {

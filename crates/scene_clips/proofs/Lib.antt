@@ -1,3 +1,3 @@
-pub mod Heard
 pub mod FilePages
+pub mod FramesAtRate
 pub mod Rates

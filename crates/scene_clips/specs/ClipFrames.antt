@@ -1,4 +1,4 @@
--- A file's sound as a scene hears it: at the scene's rate, in frames a second, and in its channels.
+-- A file's sound at a scene's rate, in frames a second, and in its channels.
 use Rattle.std.specs.Prelude.{ℕ, ◌+◌, ℤ, pos, List, [], length, map, slice_index_or, Result, Ok, Err}
 use Rattle.std.specs.List.{range_with_len}
 use Rattle.clip_decode.specs.Frames.{frames}
@@ -18,7 +18,7 @@ all_in_channels channels frames = map (in_channels channels) frames
 abbrev pub sample_or_zero : List (List ℤ) → ℕ → ℕ → ℤ
 sample_or_zero frames n c = slice_index_or (slice_index_or frames n []) c (pos 0)
 
--- the sample of channel c in frame n after conversion from the rate input_rate to output_rate: between the two frames where it lies
+-- the sample of channel c in frame n after conversion from input_rate to output_rate: between the two frames where it lies
 abbrev pub sample_at_rate : ℕ → ℕ → List (List ℤ) → ℕ → ℕ → ℤ
 sample_at_rate input_rate output_rate frames n c =
     let p = point_at input_rate output_rate n in
@@ -38,7 +38,7 @@ rate_said (Err fault) = 1
 abbrev pub file_rate : List ℕ → ℕ
 file_rate bytes = rate_said (wave bytes)
 
--- the frames of a file as a scene hears them: first the channels are converted, then the rate
+-- the frames of a file at a scene's rate and in its channels: first the channels are converted, then the rate
 unfoldable pub clip_frames : List ℕ → ℕ → ℕ → List (List ℤ)
 clip_frames bytes rate channels = frames_at_rate (file_rate bytes) rate channels (all_in_channels channels (frames bytes))
 

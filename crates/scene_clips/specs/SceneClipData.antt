@@ -1,4 +1,4 @@
--- A file as a scene hears it, as contracts see it, and what is kept of it.
+-- A file at a scene's rate and in its channels, as contracts see it, and what is kept of it.
 use Rattle.std.specs.Prelude.{◌≡◌, ℕ, ◌≤◌, List, Ok, map}
 use Rattle.std.specs.List.{range_with_len}
 use Rattle.clip_decode.specs.ClipData.{ClipData}

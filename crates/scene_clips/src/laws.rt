@@ -1,4 +1,4 @@
-//! Laws of what a scene hears of a file. The functions do nothing.
+//! Laws of a file's frames at a scene's rate and in its channels. The functions do nothing.
 
 ghost use Rattle.std.specs.Prelude.{◌≡◌, ℕ, List, [], Err};
 ghost use Rattle.scene_clips.specs.ClipFrames.{clip_frames, clip_length, clip_sample};
@@ -14,7 +14,7 @@ pub fn clip_has_samples()
         (clip_frames bytes rate channels) }
 {}
 
-/// Nothing is heard of a file that is refused.
+/// A file that is refused has no frames.
 pub fn no_frames_where_refused()
     ensures frames { (bytes : List ℕ) (rate channels : ℕ) (fault : WaveFault) →
         wave bytes ≡ Err fault → clip_frames bytes rate channels ≡ [] }

@@ -1,12 +1,12 @@
-//! Clips as a scene hears them: at the scene's rate and in its channels.
+//! Clips at a scene's rate and in its channels.
 //!
-//! A [`SceneClip`] is a clip of which all pages are decoded, once. Its samples are read by the
-//! numbers of their frame and their channel, in any order: each takes at most two frames of the
-//! file, brings them to the scene's channels, and blends them where it lies between the two.
+//! A [`SceneClip`] is a clip that is decoded whole, once. Its samples are read by the numbers of
+//! their frame and their channel, in any order: each takes at most two frames of the file, brings
+//! them to the scene's channels, and blends them where it lies between the two.
 //!
-//! `specs/ClipFrames.antt` says what is heard: the list of the file's frames, converted to the
-//! scene's channels frame by frame and then to its rate. [`clip_has_samples`] ties that list to
-//! the samples by number.
+//! `specs/ClipFrames.antt` says which these are: the list of the file's frames, converted to the
+//! scene's channels frame by frame and then to its rate. [`clip_has_samples`] says that the samples
+//! by number are those of that list.
 #![tactic(auto)]
 
 mod laws;

@@ -7,7 +7,7 @@ ghost use Rattle.rate_fit.specs.Channels.{in_channels};
 use rate_fit::to_channels;
 
 /// The sample of channel `channel` of a frame of 1 to 8 channels that is brought to `channels`, 1
-/// or 2.
+/// or 2. Only the channel that is asked for is computed.
 pub fn channel_of(frame: &[i32], channels: u8, channel: u8) -> i32
     requires some { 1 ≤ length frame.now }
     requires most { length frame.now ≤ 8 }

@@ -12,7 +12,7 @@ use rate_fit::{Fit, Interpolator};
 use std::alloc::Global;
 use std::marker::Model;
 
-/// A clip as a scene hears it, with all its pages decoded.
+/// A clip that is decoded whole, and read at a scene's rate and in its channels.
 ///
 /// Contracts see it as the `bytes` of the file and the scene's `rate` and `channels`.
 #[derive(Drop)]
@@ -68,6 +68,10 @@ impl SceneClip {
     /// Decodes all pages of a clip of at most 67108864 bytes, for a scene of `rate` frames a second,
     /// 1 to 768000, and `channels` channels, 1 or 2. It keeps the clip, whose bytes are shared, and
     /// one `i32` a sample of the file, in whole pages.
+    ///
+    /// # Errors
+    ///
+    /// [`OutOfMemory`] where there is no memory; nothing has changed then.
     pub fn decode(
         alloc: Global,
         clip: &Clip,
@@ -79,7 +83,7 @@ impl SceneClip {
         requires rate_most { rate ≤ 768000 }
         requires channels_least { 1 ≤ channels }
         requires channels_most { channels ≤ 2 }
-        ensures { IfOk result (λ heard. heard
+        ensures { IfOk result (λ decoded. decoded
             ≡ record { bytes = clip.now.bytes; rate = rate; channels = channels }) }
     {
         let wave = clip.wave();
@@ -105,8 +109,8 @@ impl SceneClip {
         self.channels
     }
 
-    /// The frames that the scene hears: the file's by the scene's rate and through its own, rounded
-    /// up.
+    /// The number of frames at the scene's rate: the file's, times the scene's rate, divided by the
+    /// file's rate and rounded up.
     pub fn len(&self) -> u64
         ensures value { result ≡ clip_length self.now.bytes self.now.rate }
         ensures most { result ≤ 2 ^ 28 * 768000 }
@@ -136,13 +140,12 @@ impl SceneClip {
         )
     }
 
-    /// The sample of a channel in a frame, both counted from 0, as the scene hears it: a number of
-    /// 24 bits, -8388608 to 8388607.
+    /// The sample of a channel in a frame, both counted from 0, at the scene's rate: a number of 24
+    /// bits, -8388608 to 8388607.
     ///
-    /// The frame lies between two of the file's, of which the second counts by how far it is on the
-    /// way to it, and the sum is rounded down; the frame after the last one is 0. Each of them is
-    /// brought to the scene's channels first: one is the mean of all, rounded down, two are the only
-    /// one twice or else the first two.
+    /// It is interpolated linearly between two frames of the file and rounded down. After the last
+    /// frame of the file stands a frame of 0. Each of the two is brought to the scene's channels
+    /// first: one is the mean of all, rounded down, two are the only one twice or else the first two.
     pub fn sample(&self, n: u64, channel: u8) -> i32
         requires frame { n < clip_length self.now.bytes self.now.rate }
         requires channel { channel < self.now.channels }

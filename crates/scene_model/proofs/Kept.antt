@@ -12,7 +12,7 @@ use Rattle.scene_model.specs.Buses.{outputs}
 use Rattle.scene_model.specs.IsPlan.{output_of, outputs_in_order, kinds}
 use Rattle.scene_model.specs.Opening.{unattached, outputs_of, all_outputs, state_of}
 use Rattle.scene_model.specs.PlanData.{PlanData}
-use Rattle.scene_model.specs.Plans.{reply, made, is_done, change_at, after, sought}
+use Rattle.scene_model.specs.Plans.{reply, made, is_done, change_at, after, with_seek}
 use Rattle.scene_model.specs.Wiring.{is_output, bus_with_target, with_target, bus_with_gain, with_gain}
 
 map_kept : {X Y : Type 0} (view : X → Y) (f : X → X) → ((x : X) → view (f x) ≡ view x) → (xs : List X) → map view (map f xs) ≡ map view xs
@@ -51,7 +51,7 @@ kinds_made p (Start node) = kinds_changed p.nodes node (λ n. record n { started
 kinds_made p (Stop node) = kinds_changed p.nodes node (λ n. record n { started = false }) (λ n. refl)
 kinds_made p (From node value) = kinds_changed p.nodes node (λ n. record n { from = value }) (λ n. refl)
 kinds_made p (Until node value) = kinds_changed p.nodes node (λ n. record n { until = value }) (λ n. refl)
-kinds_made p (Seek node place) = kinds_changed p.nodes node (sought place) (λ n. refl)
+kinds_made p (Seek node place) = kinds_changed p.nodes node (with_seek place) (λ n. refl)
 kinds_made p (Loop node on) = kinds_changed p.nodes node (λ n. record n { looped = on }) (λ n. refl)
 
 outputs_made : (p : PlanData) (e : Edit) → map output_of (made p e).buses ≡ map output_of p.buses

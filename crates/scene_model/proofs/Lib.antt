@@ -1,3 +1,4 @@
+pub mod AllEdits
 pub mod Kept
 pub mod Marking
 pub mod NoCycle
@@ -6,4 +7,5 @@ pub mod PlanStays
 pub mod Reachable
 pub mod Runs
 pub mod Seeks
+pub mod Sorting
 pub mod Steps

@@ -1,14 +1,13 @@
 -- The edits in the order of their frames: where one is put, and that the order is that of the frames.
-use Rattle.std.proofs.Common.{◌≡◌, ℕ, zero, suc, ◌+◌, ◌<◌, ◌≤◌, Bool, true, false, cond, List, [], ◌∷◌, ◌++◌, length, take, drop, map, get_or, nat_lt, Option, Some, None, refl, sym, ◌∙◌, ap, arith, one-add, append-nil, append_assoc}
+use Rattle.std.proofs.Common.{◌≡◌, ℕ, zero, suc, ◌+◌, ◌<◌, ◌≤◌, Bool, true, false, cond, List, [], ◌∷◌, ◌++◌, length, map, get_or, nat_lt, refl, sym, ◌∙◌, ap, arith, append-nil, append_assoc}
 use Rattle.std.specs.Prelude.{filter, fold, ◌==◌, ◌&&◌, if◌then◌else◌}
-use Rattle.std.specs.List.{insert, list_all, position, position_or_len}
-use Rattle.std.specs.Option.{unwrap_or}
+use Rattle.std.specs.List.{list_all}
 use Rattle.std.specs.List.Sorted.{IsNonDecreasingBy}
 use Rattle.std.proofs.lemmas.Bool.{and_from, and_parts, eqb-true, lt-ltb, ltb-true, ltb-false}
 use Rattle.std.proofs.lemmas.List.Elements.{filter-append}
 use Rattle.std.proofs.lemmas.List.{length-map}
 use Rattle.std.proofs.lemmas.List.Folds.{list_all-map}
-use Rattle.std.proofs.lemmas.List.Sums.{prefix_len-le-length}
+use Rattle.scene_model.specs.declared.edit.Edit.{Edit}
 use Rattle.scene_model.specs.declared.edit.EditRow.{EditRow}
 use Rattle.scene_model.specs.declared.order.NumberedEdit.{NumberedEdit}
 use Rattle.scene_model.specs.Order.{numbered, put, in_order}
@@ -17,40 +16,13 @@ use Rattle.scene_model.specs.Times.{edits_at}
 abbrev later : ℕ → NumberedEdit → Bool
 later at e = nat_lt at e.row.at
 
-found_or_all : (n m : ℕ) → n ≤ m → unwrap_or (cond (nat_lt n m) (Some n) None) m ≡ n
-found_or_all n m most = by_test (nat_lt n m) refl
-  where
-    by_test : (t : Bool) → nat_lt n m ≡ t → unwrap_or (cond t (Some n) None) m ≡ n
-    by_test true e = refl
-    by_test false e = let h = ltb-false n m e in omega arith
-
--- the place that `position` finds, or the length
-place_or_all : (at : ℕ) (placed : List NumberedEdit) (r : Option ℕ) → r ≡ position (later at) placed → unwrap_or r (length placed) ≡ position_or_len (later at) placed
-place_or_all at placed r e =
-    ap (λ (o : Option ℕ). unwrap_or o (length placed)) e ∙ found_or_all (position_or_len (later at) placed) (length placed) (prefix_len-le-length _ placed)
-
--- an edit is put at that place
-pub put_at : (placed : List NumberedEdit) (e : NumberedEdit) → take (position_or_len (later e.row.at) placed) placed ++ e ∷ drop (position_or_len (later e.row.at) placed) placed ≡ put placed e
-put_at [] e = refl
-put_at (x ∷ placed) e = by_test (put_at placed e) (later e.row.at x) refl
-  where
-    by_test : take (position_or_len (later e.row.at) placed) placed ++ e ∷ drop (position_or_len (later e.row.at) placed) placed ≡ put placed e → (t : Bool) → later e.row.at x ≡ t → take (position_or_len (later e.row.at) (x ∷ placed)) (x ∷ placed) ++ e ∷ drop (position_or_len (later e.row.at) (x ∷ placed)) (x ∷ placed) ≡ put (x ∷ placed) e
-    by_test ih true is = rw is refl
-    by_test ih false is = rw (is, one-add) (ap (λ (es : List NumberedEdit). x ∷ es) ih)
-
-pub put_into : (placed seen new : List NumberedEdit) (e : NumberedEdit) (r : Option ℕ) (n : ℕ) → r ≡ position (later e.row.at) seen → seen ≡ placed → n ≡ unwrap_or r (length placed) → new ≡ insert placed n e → new ≡ put placed e
-put_into placed seen new e r n found same is inserted =
-    inserted
-    ∙ ap (λ i. insert placed i e) (is ∙ place_or_all e.row.at placed r (found ∙ ap (position (later e.row.at)) same))
-    ∙ put_at placed e
-
 -- no edit of these is before that frame
-abbrev NoneBefore : ℕ → List NumberedEdit → Type 0
+abbrev pub NoneBefore : ℕ → List NumberedEdit → Type 0
 NoneBefore at [] = Unit {0}
 NoneBefore at (x ∷ placed) = (at ≤ x.row.at) × NoneBefore at placed
 
 -- no edit is before one that stands before it
-abbrev Ascend : List NumberedEdit → Type 0
+abbrev pub Ascend : List NumberedEdit → Type 0
 Ascend [] = Unit {0}
 Ascend (x ∷ placed) = NoneBefore x.row.at placed × Ascend placed
 
@@ -92,11 +64,14 @@ ascend_at (x ∷ placed) up zero (suc j) d order within = none_at x.row.at place
 ascend_at (x ∷ placed) up (suc i) zero d order within = absurd (omega arith)
 ascend_at (x ∷ placed) up (suc i) (suc j) d order within = ascend_at placed up.1 i j d (omega arith) (omega arith)
 
+pub order_ascend : (rows : List EditRow) → Ascend (in_order rows)
+order_ascend rows = ascend_all [] (numbered 0 rows) tt
+
 pub order_ascends : (rows : List EditRow) → IsNonDecreasingBy (λ (e : NumberedEdit). e.row.at) (in_order rows)
-order_ascends rows = ascend_at (in_order rows) (ascend_all [] (numbered 0 rows) tt)
+order_ascends rows = ascend_at (in_order rows) (order_ascend rows)
 
 -- the edits of a frame
-abbrev of_frame : ℕ → List NumberedEdit → List NumberedEdit
+abbrev pub of_frame : ℕ → List NumberedEdit → List NumberedEdit
 of_frame t es = filter (λ (e : NumberedEdit). e.row.at == t) es
 
 none_of_frame : (t at : ℕ) (placed : List NumberedEdit) → t < at → NoneBefore at placed → of_frame t placed ≡ []
@@ -157,6 +132,15 @@ order_keeps_edits rows t =
     ap (map (λ (r : EditRow). r.edit))
     (rows_of_frame t (in_order rows) ∙ ap rows_of (order_keeps_frames rows t) ∙ sym (rows_of_frame t (numbered 0 rows))
     ∙ ap (filter (λ (r : EditRow). r.at == t)) (rows_of_numbered 0 rows))
+
+edits_of_rows : (es : List NumberedEdit) → map (λ (e : NumberedEdit). e.row.edit) es ≡ map (λ (r : EditRow). r.edit) (rows_of es)
+edits_of_rows [] = refl
+edits_of_rows (e ∷ es) = ap (λ (rest : List Edit). e.row.edit ∷ rest) (edits_of_rows es)
+
+pub edits_of_frame : (rows : List EditRow) (t : ℕ) → map (λ (e : NumberedEdit). e.row.edit) (of_frame t (in_order rows)) ≡ edits_at rows t
+edits_of_frame rows t =
+    edits_of_rows (of_frame t (in_order rows))
+    ∙ ap (map (λ (r : EditRow). r.edit)) (sym (rows_of_frame t (in_order rows))) ∙ order_keeps_edits rows t
 
 -- what holds of each edit of the script holds of each in order
 all_put : (p : NumberedEdit → Bool) (placed : List NumberedEdit) (e : NumberedEdit) → list_all p (put placed e) ≡ (p e && list_all p placed)

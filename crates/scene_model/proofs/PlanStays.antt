@@ -14,13 +14,13 @@ use Rattle.scene_model.specs.declared.edit.Edit.{Edit}
 use Rattle.scene_model.specs.declared.edit.Edit.TheVariants.{Attach, Detach, SetGain, Start, Stop, From, Until, Seek, Loop}
 use Rattle.scene_model.specs.declared.reply.Reply.TheVariants.{Done, NoSuchBus, GainTooLarge}
 use Rattle.scene_model.specs.Buses.{outputs}
-use Rattle.scene_model.specs.IsPlan.{IsBusOf, IsPlan, IsSought, names_nodes, may_seek, seeks_at, outputs_in_order}
+use Rattle.scene_model.specs.IsPlan.{IsBusOf, IsPlan, HasSeekInRange, names_nodes, may_seek, seeks_at, outputs_in_order}
 use Rattle.scene_model.specs.Limits as limits
 use Rattle.scene_model.specs.declared.bus_row.BusRow.{BusRow}
 use Rattle.scene_model.specs.IsScene.{is_bus_row}
 use Rattle.scene_model.specs.Opening.{unattached, outputs_of, all_outputs, unwired, state_of, attach_edits, after_row}
 use Rattle.scene_model.specs.PlanData.{PlanData}
-use Rattle.scene_model.specs.Plans.{reply, made, is_done, has_output, change_at, with_node, after, sought}
+use Rattle.scene_model.specs.Plans.{reply, made, is_done, has_output, change_at, with_node, after, with_seek}
 use Rattle.scene_model.specs.Reach.{HasNoCycle}
 use Rattle.scene_model.specs.Wiring.{is_output, bus_with_target, with_target, bus_with_gain, with_gain}
 use Rattle.scene_model.proofs.Kept.{outputs_with_target, outputs_with_gain, kinds_changed, outputs_unwired}
@@ -88,9 +88,9 @@ All_changed P change (x ∷ xs) zero step all =
 All_changed P change (x ∷ xs) (suc n) step all =
     All-cons P x (change_at change xs n) (All-head P x xs all) (All_changed P change xs n step (All-tail P x xs all))
 
-IsPlan-with_node : (p : PlanData) (n : ℕ) (change : NodeState → NodeState) → ((x : NodeState) → (change x).kind ≡ x.kind) → ((x : NodeState) → slice_get p.nodes n ≡ Some x → IsSought x → IsSought (change x)) → IsPlan p → IsPlan (with_node p n change)
+IsPlan-with_node : (p : PlanData) (n : ℕ) (change : NodeState → NodeState) → ((x : NodeState) → (change x).kind ≡ x.kind) → ((x : NodeState) → slice_get p.nodes n ≡ Some x → HasSeekInRange x → HasSeekInRange (change x)) → IsPlan p → IsPlan (with_node p n change)
 IsPlan-with_node p n change same seeks w = record {
-  seeks_are = All_changed IsSought change p.nodes n seeks w.seeks_are;
+  seeks_are = All_changed HasSeekInRange change p.nodes n seeks w.seeks_are;
   outputs_are = w.outputs_are ∙ ap (outputs_in_order 0) (sym (kinds_changed p.nodes n change same));
   nodes_most = rw length-change_at w.nodes_most;
   buses_are = subst (λ (k : ℕ). All (IsBusOf k) p.buses) (sym (length-change_at change p.nodes n)) w.buses_are;
@@ -98,8 +98,8 @@ IsPlan-with_node p n change same seeks w = record {
   no_cycle = w.no_cycle;
 }
 
-sought_once_more : (nodes : List NodeState) (node place : ℕ) → may_seek nodes (Seek node place) ≡ true → (x : NodeState) → slice_get nodes node ≡ Some x → IsSought (sought place x)
-sought_once_more nodes node place h x e =
+with_seek_once_more : (nodes : List NodeState) (node place : ℕ) → may_seek nodes (Seek node place) ≡ true → (x : NodeState) → slice_get nodes node ≡ Some x → HasSeekInRange (with_seek place x)
+with_seek_once_more nodes node place h x e =
     let both = and_parts (nat_le place limits.last_place) (nat_lt (seeks_at nodes node) limits.most_seeks) h in
     let few : nat_lt x.seeks limits.most_seeks ≡ true = subst (λ (o : Option NodeState). nat_lt (option_map_or (λ (n : NodeState). n.seeks) o 0) limits.most_seeks ≡ true) e both.1 in
     let below = ltb-true x.seeks limits.most_seeks few in
@@ -118,7 +118,7 @@ IsPlan-made p (Stop node) w named may d = IsPlan-with_node p node _ (λ x. refl)
 IsPlan-made p (From node value) w named may d = IsPlan-with_node p node _ (λ x. refl) (λ x e h. record { seeks_most = h.seeks_most; place_most = h.place_most }) w
 IsPlan-made p (Until node value) w named may d = IsPlan-with_node p node _ (λ x. refl) (λ x e h. record { seeks_most = h.seeks_most; place_most = h.place_most }) w
 IsPlan-made p (Seek node place) w named may d =
-    IsPlan-with_node p node (sought place) (λ x. refl) (λ x e h. sought_once_more p.nodes node place may x e) w
+    IsPlan-with_node p node (with_seek place) (λ x. refl) (λ x e h. with_seek_once_more p.nodes node place may x e) w
 IsPlan-made p (Loop node on) w named may d = IsPlan-with_node p node _ (λ x. refl) (λ x e h. record { seeks_most = h.seeks_most; place_most = h.place_most }) w
 
 -- outputs as they are made: of these nodes, unattached, at the unit gain
@@ -154,7 +154,7 @@ IsPlan-unwired nodes most =
     record {
       nodes_most = rw same most;
       outputs_are = outputs_unwired 0 nodes;
-      seeks_are = All-map IsSought state_of nodes (All_any (λ n. IsSought (state_of n)) (λ n. record { seeks_most = omega arith; place_most = omega arith }) nodes);
+      seeks_are = All-map HasSeekInRange state_of nodes (All_any (λ n. HasSeekInRange (state_of n)) (λ n. record { seeks_most = omega arith; place_most = omega arith }) nodes);
       buses_are = subst (λ (k : ℕ). All (IsBusOf k) buses) (sym same)
           (All-weaker (IsFresh 0 (length nodes)) (IsBusOf (length nodes)) (λ b w. record { node_is = w.below_end; to_is = λ m e. cc (w.nowhere, e) }) buses fresh);
       gains_most = All-weaker (IsFresh 0 (length nodes)) (λ (b : Bus). b.gain ≤ limits.most_gain) (λ b w. let u = w.unit in omega arith) buses fresh;

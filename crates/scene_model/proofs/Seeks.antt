@@ -13,7 +13,7 @@ use Rattle.scene_model.specs.IsScene.{is_edit, is_time}
 use Rattle.scene_model.specs.Limits as limits
 use Rattle.scene_model.specs.Opening.{state_of, unwired, attach_edits, after_row, opening}
 use Rattle.scene_model.specs.PlanData.{PlanData}
-use Rattle.scene_model.specs.Plans.{reply, made, is_done, change_at, after, sought}
+use Rattle.scene_model.specs.Plans.{reply, made, is_done, change_at, after, with_seek}
 use Rattle.scene_model.specs.SceneData.{SceneData}
 use Rattle.scene_model.proofs.PlanStays.{length-after, length-after_row}
 
@@ -46,7 +46,7 @@ seeks_made p (Start node) n = seeks_changed 0 _ (λ x. omega arith) p.nodes node
 seeks_made p (Stop node) n = seeks_changed 0 _ (λ x. omega arith) p.nodes node n
 seeks_made p (From node value) n = seeks_changed 0 _ (λ x. omega arith) p.nodes node n
 seeks_made p (Until node value) n = seeks_changed 0 _ (λ x. omega arith) p.nodes node n
-seeks_made p (Seek node place) n = seeks_changed 1 (sought place) (λ x. omega arith) p.nodes node n
+seeks_made p (Seek node place) n = seeks_changed 1 (with_seek place) (λ x. omega arith) p.nodes node n
 seeks_made p (Loop node on) n = seeks_changed 0 _ (λ x. omega arith) p.nodes node n
 
 seeks_after : (p : PlanData) (e : Edit) (n : ℕ) → seeks_at (after p e).nodes n ≤ seeks_at p.nodes n + seeks_of e

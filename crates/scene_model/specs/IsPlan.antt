@@ -19,7 +19,7 @@ pub record IsBusOf (nodes : ℕ) (b : Bus) : Type 0 where
   pub to_is : (to : ℕ) → b.to ≡ Some to → to ≤ nodes
 
 -- the number of seeks and the place are in their ranges
-pub record IsSought (n : NodeState) : Type 0 where
+pub record HasSeekInRange (n : NodeState) : Type 0 where
   pub seeks_most : n.seeks ≤ limits.most_seeks
   pub place_most : n.place ≤ limits.last_place
 
@@ -38,7 +38,7 @@ kinds nodes = map (λ (n : NodeState). n.kind) nodes
 
 pub record IsPlan (p : PlanData) : Type 0 where
   pub nodes_most : length p.nodes ≤ limits.most_nodes
-  pub seeks_are : All IsSought p.nodes
+  pub seeks_are : All HasSeekInRange p.nodes
   pub outputs_are : map output_of p.buses ≡ outputs_in_order 0 (kinds p.nodes)
   pub buses_are : All (IsBusOf (length p.nodes)) p.buses
   pub gains_most : All (λ (b : Bus). b.gain ≤ limits.most_gain) p.buses

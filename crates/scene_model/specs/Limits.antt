@@ -43,7 +43,7 @@ most_edits = 4096
 abbrev pub last_editor : ℕ
 last_editor = 3
 
--- the last frame that a seek can name
+-- the last frame that a seek can name, at the scene's rate
 abbrev pub last_place : ℕ
 last_place = 140737488355327
 

@@ -69,8 +69,8 @@ change_at change (x ∷ xs) zero = change x ∷ xs
 change_at change (x ∷ xs) (suc n) = x ∷ change_at change xs n
 
 -- a node with one more seek, to this place
-abbrev pub sought : ℕ → NodeState → NodeState
-sought place n = record n { seeks = n.seeks + 1; place = place }
+abbrev pub with_seek : ℕ → NodeState → NodeState
+with_seek place n = record n { seeks = n.seeks + 1; place = place }
 
 abbrev pub with_node : PlanData → ℕ → (NodeState → NodeState) → PlanData
 with_node p node change = record p { nodes = change_at change p.nodes node }
@@ -84,7 +84,7 @@ made p (Start node) = with_node p node (λ n. record n { started = true })
 made p (Stop node) = with_node p node (λ n. record n { started = false })
 made p (From node value) = with_node p node (λ n. record n { from = value })
 made p (Until node value) = with_node p node (λ n. record n { until = value })
-made p (Seek node place) = with_node p node (sought place)
+made p (Seek node place) = with_node p node (with_seek place)
 made p (Loop node on) = with_node p node (λ n. record n { looped = on })
 
 abbrev pub is_done : Reply → Bool

@@ -14,7 +14,7 @@ abbrev pub Path : List Bus → ℕ → List Bus → ℕ → Type 0
 Path buses from [] to = from ≡ to
 Path buses from (b ∷ path) to = (next : ℕ) × Leads buses from b next × Path buses next path to
 
--- some finite list of attached buses leads there
+-- some path of attached buses leads there
 abbrev pub Reaches : List Bus → ℕ → ℕ → Type 0
 Reaches buses from to = (path : List Bus) × Path buses from path to
 

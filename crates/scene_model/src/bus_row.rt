@@ -8,6 +8,7 @@ pub struct BusRow {
     /// The number of the node to whose input it is attached, where that is the number of nodes for
     /// the endpoint. `None` where it is attached nowhere.
     pub to: Option<u32>,
-    /// The gain of the bus, in 1/65536.
+    /// The gain of the bus, in 1/65536, any number: one above 1048576 is refused at the start and
+    /// changes nothing.
     pub gain: u32,
 }

@@ -31,7 +31,7 @@ pub(crate) fn make(nodes: &mut [NodeState], buses: &mut [Bus], edit: &Edit)
 /// Counts one more seek and sets the place.
 fn seek(state: &mut NodeState, place: u64)
     requires { state.old.seeks < limits.most_seeks }
-    ensures { state.new ≡ spec.sought place state.old }
+    ensures { state.new ≡ spec.with_seek place state.old }
 {
     state.seeks += 1;
     state.place = place;

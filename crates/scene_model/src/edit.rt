@@ -16,7 +16,8 @@ pub enum Edit {
     From { node: u32, value: u32 },
     /// Sets the frame from which on a node is no longer active, 0 to 16777216.
     Until { node: u32, value: u32 },
-    /// Moves a sound to a frame of its resource, 0 to 140737488355327.
+    /// Moves a sound to a frame of its clip, counted from 0 at the scene's rate: 0 to
+    /// 140737488355327. A place past the clip's end is its end.
     Seek { node: u32, place: u64 },
     /// Sets whether a sound starts again at its end.
     Loop { node: u32, on: bool },

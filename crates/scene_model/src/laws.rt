@@ -1,4 +1,4 @@
-ghost use Rattle.std.specs.Prelude.{◌≡◌, ◌<◌, ◌==◌, ℕ, Bool, IsTrue, filter, fold, length, map, nat_lt};
+ghost use Rattle.std.specs.Prelude.{◌≡◌, ◌<◌, ◌==◌, ℕ, Bool, IsTrue, filter, fold, length, map, nat_le, nat_lt};
 ghost use Rattle.std.specs.List.{list_all};
 ghost use Rattle.std.specs.List.Sorted.{IsNonDecreasingBy};
 ghost use Rattle.scene_model.specs.declared.edit.EditRow.{EditRow};
@@ -45,4 +45,11 @@ pub fn edits_are_ordered_by_frames(rows: &[EditRow])
     ensures frames { (t : ℕ) → filter (λ (e : NumberedEdit). e.row.at == t) (in_order rows.now) ≡ filter (λ (e : NumberedEdit). e.row.at == t) (numbered 0 rows.now) }
     ensures edits { (t : ℕ) → edits_at (map (λ (e : NumberedEdit). e.row) (in_order rows.now)) t ≡ edits_at rows.now t }
     ensures kept { (p : EditRow → Bool) → IsTrue (list_all p rows.now) → IsTrue (list_all p (map (λ (e : NumberedEdit). e.row) (in_order rows.now))) }
+{}
+
+/// A law: the plan at a frame is the plan with which the scene begins after all edits of that frame
+/// and of those before it, in the order of their frames and then of their rows.
+pub fn plan_is_all_edits_so_far(scene: &Scene)
+    ensures { (t : ℕ) → plan scene.now t ≡ fold after (opening scene.now)
+        (map (λ (e : NumberedEdit). e.row.edit) (filter (λ (e : NumberedEdit). nat_le e.row.at t) (in_order scene.now.edits))) }
 {}

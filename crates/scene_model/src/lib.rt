@@ -4,7 +4,8 @@
 //! A [`Scene`] is made once, from a script, and read by all that renders it. It keeps its limits by
 //! its type: whoever holds one knows that its rate is at most [`MAX_RATE`], that each sound names a
 //! resource that is there, and that each row names a node that is there. So a reader of scenes
-//! tests nothing again. Who writes the literal `Scene { .. }` owes these facts.
+//! tests nothing again. A literal `Scene { .. }` that might break one of them is refused when the
+//! crate is built.
 //!
 //! A [`Plan`] is how the scene is wired at some moment: it begins as [`Plan::opening`] says, and
 //! [`apply`] makes an edit in it or refuses it. No node of a plan is ever reached from itself along
@@ -39,7 +40,7 @@ pub use bus_row::BusRow;
 pub use edit::{Edit, EditRow};
 pub use laws::{
     a_plan_takes_the_edits_of_a_scene, edits_are_ordered_by_frames, edits_keep_kinds_and_outputs,
-    no_plan_has_a_cycle,
+    no_plan_has_a_cycle, plan_is_all_edits_so_far,
 };
 pub use limits::{
     MAX_FILE_NAME_BYTES, MAX_GAIN, MAX_LENGTH, MAX_NAME_BYTES, MAX_PLACE, MAX_RATE, MAX_SEEKS,

@@ -16,7 +16,7 @@ pub const UNITY_GAIN: u32 = 65_536;
 /// The highest gain of a bus, 16.0, in 1/65536.
 pub const MAX_GAIN: u32 = 1_048_576;
 
-/// The last frame that a seek can name.
+/// The last frame that a seek can name, at the scene's rate.
 pub const MAX_PLACE: u64 = 140_737_488_355_327;
 
 /// The most seeks of a node. With a place their number fits a word of 64 bits.

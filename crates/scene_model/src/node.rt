@@ -13,9 +13,9 @@ pub enum NodeKind {
         /// Whether it starts again at the end of the resource.
         looped: bool,
     },
-    /// A group: one input, which it hands on to its one output.
+    /// A group: one input, which it passes on to its one output.
     Group,
-    /// A splitter: one input, which it hands on to each of its outputs.
+    /// A splitter: one input, which it passes on to each of its outputs.
     Splitter {
         /// The number of outputs, 2 to 4.
         outputs: u8,
@@ -46,6 +46,7 @@ pub struct Node {
     pub started: bool,
     /// The first frame at which it may be active, 0 to 16777216.
     pub from: u32,
-    /// The first frame after `from` at which it is no longer active, 0 to 16777216.
+    /// The frame from which on it is no longer active, 0 to 16777216. It is never active where this
+    /// is at most `from`.
     pub until: u32,
 }

@@ -5,8 +5,8 @@ use crate::node::{Node, NodeKind};
 use plain_data::OutOfMemory;
 use std::alloc::Global;
 
-/// A node at some moment: its kind, which no edit changes, and its dials, which edits turn. It is
-/// active at frame `t` where it is started and `from <= t < until`.
+/// A node at some moment: its kind, which no edit changes, and its settings, which edits change. It
+/// is active at frame `t` where it is started and `from <= t < until`.
 #[derive(Debug, Clone, Copy, PartialEq, Eq)]
 pub struct NodeState {
     /// Sound, group or splitter, as the script has it.
@@ -15,11 +15,13 @@ pub struct NodeState {
     pub started: bool,
     /// The first frame at which it may be active, 0 to 16777216 in a script.
     pub from: u32,
-    /// The first frame after `from` at which it is no longer active, 0 to 16777216 in a script.
+    /// The frame from which on it is no longer active, 0 to 16777216 in a script. It is never
+    /// active where this is at most `from`.
     pub until: u32,
     /// How many seeks were made so far, 0 to 131071. It is 0 for a group or a splitter.
     pub seeks: u32,
-    /// The place of the last seek, 0 to 140737488355327, and 0 before the first.
+    /// The place of the last seek, in frames at the scene's rate, 0 to 140737488355327, and 0
+    /// before the first.
     pub place: u64,
     /// Whether a sound starts again at its end. It is `false` for a group or a splitter.
     pub looped: bool,

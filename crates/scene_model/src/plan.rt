@@ -22,7 +22,7 @@ use std::alloc::Global;
 use std::marker::Model;
 
 /// How a scene is wired at some moment: each output bus with its target and gain, and each node
-/// with its kind and its dials. No node of it is reached from itself along attached buses.
+/// with its kind and its settings. No node of it is reached from itself along attached buses.
 #[derive(Debug, Drop)]
 pub struct Plan {
     nodes: Vec<NodeState>,
@@ -45,6 +45,10 @@ impl Plan {
     /// every output bus unattached at gain 1.0. Then the bus rows are applied as edits, in order: a
     /// gain edit and, where the row has a target, an attach edit. A row that is refused changes
     /// nothing.
+    ///
+    /// # Errors
+    ///
+    /// [`OutOfMemory`] where there is no memory; nothing has changed then.
     pub fn opening(alloc: Global, scene: &Scene) -> Result<Plan, OutOfMemory>
         ensures { IfOk result (λ p. p ≡ spec.opening scene.now) }
     {
@@ -81,9 +85,9 @@ impl Plan {
         can_be_made(self.nodes.as_slice(), edit)
     }
 
-    /// Whether some list of attached buses leads from one node to another, one of which may be the
-    /// endpoint. A node reaches itself, by the empty list. The work grows with the number of buses
-    /// times the number of nodes, and not with the number of ways.
+    /// Whether some path of attached buses leads from one node to another, one of which may be the
+    /// endpoint. A node reaches itself, by the empty path. The work grows with the number of buses
+    /// times the number of nodes, and not with the number of paths.
     pub fn reaches(&self, from: u32, to: u32) -> bool
         requires from { from ≤ length self.now.nodes }
         requires to { to ≤ length self.now.nodes }
@@ -98,7 +102,7 @@ impl Plan {
     ///
     /// # Errors
     ///
-    /// Want of memory.
+    /// [`OutOfMemory`] where there is no memory; nothing has changed then.
     pub fn unwired(alloc: Global, nodes: &[Node]) -> Result<Plan, OutOfMemory>
         requires { length nodes.now ≤ 128 }
         ensures { IfOk result (λ p. p ≡ spec.unwired nodes.now) }

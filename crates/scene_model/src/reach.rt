@@ -8,8 +8,8 @@ use crate::bus::Bus;
 /// A mark for each node that a scene may have and one for the endpoint.
 const MARKS: usize = 129;
 
-/// Whether some list of attached buses leads from the one node to the other. A node reaches itself,
-/// by the empty list.
+/// Whether some path of attached buses leads from the one node to the other. A node reaches itself,
+/// by the empty path.
 pub(crate) fn reaches(buses: &[Bus], from: u32, to: u32) -> bool
     requires buses { All (IsBusOf 128) buses.now }
     requires from { from ≤ 128 }

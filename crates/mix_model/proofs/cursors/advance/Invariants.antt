@@ -1,6 +1,6 @@
 use Rattle.std.proofs.Common.{◌≡◌, ◌<◌, ◌≤◌, ℕ}
 use Rattle.std.specs.Prelude.{slice_index}
-use Rattle.mix_model.specs.Wires.{cursor_after}
+use Rattle.mix_model.specs.OrderedBuses.{cursor_after}
 use Rattle.mix_model.proofs.cursors.advance.Given as goal
 
 abbrev pub invariant-loop-n : goal.invariant-loop-n

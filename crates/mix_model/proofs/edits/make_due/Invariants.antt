@@ -2,7 +2,7 @@ use Rattle.std.proofs.Common.{◌≡◌, ◌<◌, ◌≤◌, ◌-◌, ℕ, lengt
 use Rattle.std.specs.Prelude.{fold, slice_index}
 use Rattle.scene_model.specs.Plans.{after}
 use Rattle.mix_model.specs.Due.{due, CanMakeAll, frame_at}
-use Rattle.mix_model.specs.Mix.{sought}
+use Rattle.mix_model.specs.Mix.{cursor_after_edit}
 use Rattle.mix_model.proofs.edits.make_due.Given as goal
 
 abbrev pub invariant-loop-next : goal.invariant-loop-next
@@ -13,7 +13,7 @@ invariant-loop-next l = record {
   can : CanMakeAll l.plan (drop l.next l.edits);
   nodes : length l.plan.nodes ≡ length l.initial.plan.nodes;
   plan : fold after l.plan (due (drop l.next l.edits) l.time) ≡ fold after l.initial.plan (due (drop l.initial.next l.edits) l.time);
-  cursors : (n : ℕ) → fold (sought n (slice_index l.frames n)) (slice_index l.cursors n) (due (drop l.next l.edits) l.time) ≡ fold (sought n (slice_index l.frames n)) (slice_index l.initial.cursors n) (due (drop l.initial.next l.edits) l.time);
+  cursors : (n : ℕ) → fold (cursor_after_edit n (slice_index l.frames n)) (slice_index l.cursors n) (due (drop l.next l.edits) l.time) ≡ fold (cursor_after_edit n (slice_index l.frames n)) (slice_index l.initial.cursors n) (due (drop l.initial.next l.edits) l.time);
 }
 
 abbrev pub decreases-loop-next : goal.decreases-loop-next

@@ -1,12 +1,12 @@
 use Rattle.std.proofs.Common.{◌≡◌, ◌<◌, ℕ, length, take}
 use Rattle.mix_model.specs.Signals.{total, share, input}
-use Rattle.mix_model.specs.Wires.{moment_of, sum_at, AreWithin}
+use Rattle.mix_model.specs.OrderedBuses.{frame_state_of, sum_at, AreWithin}
 use Rattle.mix_model.proofs.frame.inputs.Given as goal
 
-abbrev pub invariant-loop-wire : goal.invariant-loop-wire
-invariant-loop-wire l =
-    let m = moment_of l.nodes l.wires l.time l.clips l.cursors in
+abbrev pub invariant-loop-bus : goal.invariant-loop-bus
+invariant-loop-bus l =
+    let m = frame_state_of l.nodes l.ordered_buses l.time l.clips l.cursors in
     record {
-      sums_are : (n : ℕ) → n < length l.sums → sum_at l.sums n ≡ total (share m l.channel (input m l.channel) n) (take l.wire-index l.wires);
-      within : AreWithin l.wire-index l.sums;
+      sums_are : (n : ℕ) → n < length l.sums → sum_at l.sums n ≡ total (share m l.channel (input m l.channel) n) (take l.bus-index l.ordered_buses);
+      within : AreWithin l.bus-index l.sums;
     }

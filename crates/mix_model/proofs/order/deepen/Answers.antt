@@ -1,5 +1,5 @@
 use Rattle.std.proofs.Common.{arith}
-use Rattle.mix_model.specs.Wires.{no_bus}
+use Rattle.mix_model.specs.OrderedBuses.{no_bus}
 use Rattle.mix_model.proofs.Deepening.{pass_deeper, pass_same}
 use Rattle.mix_model.proofs.order.deepen.Goals as goal
 use Rattle.mix_model.proofs.order.deepen.Goals.{then-deepen_target, else-deepen_target}

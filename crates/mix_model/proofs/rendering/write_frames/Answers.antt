@@ -1,55 +1,12 @@
-use Rattle.std.proofs.Common.{arith, refl, sym, ap, ◌∙◌, ◌≡◌, ◌++◌, []}
-use Rattle.scene_model.specs.SceneData.{SceneData}
-use Rattle.snd_io.specs.declared.answers.Put.TheVariants.{Done}
-use Rattle.snd_io.specs.Runs.{writes-then}
+use Rattle.std.proofs.Common.{arith, refl, sym, subst, ap, ◌∙◌, ◌≡◌, ◌++◌, []}
+use Rattle.std.proofs.lemmas.Result.{err_from_is_err_and}
 use Rattle.std.specs.Option.{option_map}
+use Rattle.snd_io.specs.Answers.{Writes}
 use Rattle.clip_decode.specs.Frames.{interleaved}
 use Rattle.mix_model.specs.Mix.{frames_from}
-use Rattle.mix_model.specs.Rendering.{data_of, summary_of, frames_before}
-use Rattle.mix_model.proofs.Written.{data_rest, all_frames, stopped_failed, stopped_out_of_memory, nothing}
+use Rattle.mix_model.specs.Rendering.{data_of, frames_before}
+use Rattle.mix_model.proofs.Written.{data_rest, stopped_block, nothing}
 use Rattle.mix_model.proofs.rendering.write_frames.Goals as goal
-
-pub returns-in-Err-clause-after : goal.returns-in-Err-clause-after
-returns-in-Err-clause-after g c =
-    let s = c.args.scene.now in
-    let now = c.loop-blocks.invariant in
-    (data_of s (frames_before s c.loop-blocks.blocks), data_rest s c.args.blocks.now.player.clips.items c.loop-blocks.blocks now.clips now.rendered.before.time_most, now.text)
-
-pub returns-in-Failed-clause-after : goal.returns-in-Failed-clause-after
-returns-in-Failed-clause-after g c =
-    let s = c.args.scene.now in
-    let now = c.loop-blocks.invariant in
-    let next = c.in-Ok.ensures in
-    let joined = next.bytes ∙ ap (λ bytes. data_of s (frames_before s c.loop-blocks.blocks) ++ bytes) (sym c.as_slice.ensures.value) in
-    stopped_failed (data_of s (frames_before s c.loop-blocks.blocks)) c.as_slice.result.now (data_of s (frames_before s c.next.new.self)) _ _ _ _ joined
-    (data_rest s c.args.blocks.now.player.clips.items c.next.new.self (next.next.1 ∙ now.clips) next.rendered.before.time_most) now.text c.in-Failed.ensures.after
-
-pub returns-in-OutOfMemory-clause-after : goal.returns-in-OutOfMemory-clause-after
-returns-in-OutOfMemory-clause-after g c =
-    let s = c.args.scene.now in
-    let now = c.loop-blocks.invariant in
-    let next = c.in-Ok.ensures in
-    let joined = next.bytes ∙ ap (λ bytes. data_of s (frames_before s c.loop-blocks.blocks) ++ bytes) (sym c.as_slice.ensures.value) in
-    stopped_out_of_memory (data_of s (frames_before s c.loop-blocks.blocks)) c.as_slice.result.now (data_of s (frames_before s c.next.new.self)) _ _ _ _ joined
-    (data_rest s c.args.blocks.now.player.clips.items c.next.new.self (next.next.1 ∙ now.clips) next.rendered.before.time_most) now.text c.in-OutOfMemory.ensures.after
-
-pub returns-clause-after : goal.returns-clause-after
-returns-clause-after g c =
-    let s = c.args.scene.now in
-    let now = c.loop-blocks.invariant in
-    let most = now.rendered.before.time_most in
-    let ended = ap (λ (q : SceneData). q.length) c.scene.view_is in
-    let whole : c.loop-blocks.blocks.player.time ≡ s.length = omega arith in
-    now.text ∙ ap (λ frames. option_map (λ t. t ++ data_of s frames) (g.S.Sink.written c.args.sink.now)) (all_frames s c.args.blocks.now.player.clips.items c.loop-blocks.blocks now.clips whole)
-
-pub returns-clause-summary : goal.returns-clause-summary
-returns-clause-summary g c =
-    let s = c.args.scene.now in
-    let now = c.loop-blocks.invariant in
-    let most = now.rendered.before.time_most in
-    let ended = ap (λ (q : SceneData). q.length) c.scene.view_is in
-    let whole : c.loop-blocks.blocks.player.time ≡ s.length = omega arith in
-    λ done. now.rendered.summary_is ∙ ap (summary_of s) (all_frames s c.args.blocks.now.player.clips.items c.loop-blocks.blocks now.clips whole)
 
 pub loop-blocks-init : goal.loop-blocks-init
 unfolding interleaved
@@ -63,16 +20,21 @@ loop-blocks-init g c =
       later = omega arith;
     }
 
-pub loop-blocks-preserved : goal.loop-blocks-preserved
-loop-blocks-preserved g c =
+pub returns-in_err-next-clause-after : goal.returns-in_err-next-clause-after
+returns-in_err-next-clause-after g c =
     let s = c.args.scene.now in
     let now = c.loop-blocks.invariant in
-    let next = c.in-Ok.ensures in
+    let p = err_from_is_err_and c.from_residual.result c.from_residual.ensures.1 in
+    rw (p.1, p.2) (data_of s (frames_before s c.loop-blocks.blocks), data_rest s c.args.blocks.now.player.clips.items c.loop-blocks.blocks now.clips now.rendered.before.time_most, now.text)
+
+pub returns-in_err-done-clause-after : goal.returns-in_err-done-clause-after
+returns-in_err-done-clause-after g c =
+    let s = c.args.scene.now in
+    let now = c.loop-blocks.invariant in
+    let next = c.in_ok-next.ensures in
+    let fault = c.in_err-done.field-0.0 in
+    let p = err_from_is_err_and c.from_residual-in_err-done.result c.from_residual-in_err-done.ensures.1 in
     let joined = next.bytes ∙ ap (λ bytes. data_of s (frames_before s c.loop-blocks.blocks) ++ bytes) (sym c.as_slice.ensures.value) in
-    let cause = c.in-Done.ensures.cause in
-    record {
-      rendered = next.rendered;
-      clips = next.next.1 ∙ now.clips;
-      text = writes-then Done (data_of s (frames_before s c.loop-blocks.blocks)) c.as_slice.result.now _ _ _ now.text c.in-Done.ensures.after ∙ ap (λ bytes. option_map (λ t. t ++ bytes) (g.S.Sink.written c.args.sink.now)) (sym joined);
-      later = omega (arith, cause.later);
-    }
+    let wrote = subst (λ answer. Writes answer c.as_slice.result.now (g.S.Sink.written c.loop-blocks.sink) (g.S.Sink.written c.write.new.self)) (sym c.in_err-done.ensures) c.write.ensures.after in
+    rw (p.1, p.2) (stopped_block fault (data_of s (frames_before s c.loop-blocks.blocks)) c.as_slice.result.now (data_of s (frames_before s c.next.new.self)) _ _ _ _ joined
+    (data_rest s c.args.blocks.now.player.clips.items c.next.new.self (next.next.1 ∙ now.clips) next.rendered.before.time_most) now.text wrote)

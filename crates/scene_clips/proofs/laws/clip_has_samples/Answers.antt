@@ -1,4 +1,4 @@
-use Rattle.scene_clips.proofs.Heard.{list_has_samples}
+use Rattle.scene_clips.proofs.FramesAtRate.{list_has_samples}
 use Rattle.scene_clips.proofs.laws.clip_has_samples.Goals as goal
 
 pub returns : goal.returns

@@ -1,4 +1,4 @@
-use Rattle.scene_clips.proofs.Heard.{no_clip_frames, no_length}
+use Rattle.scene_clips.proofs.FramesAtRate.{no_clip_frames, no_length}
 use Rattle.scene_clips.proofs.laws.no_frames_where_refused.Goals as goal
 
 pub returns-clause-frames : goal.returns-clause-frames

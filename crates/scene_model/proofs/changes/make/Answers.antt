@@ -1,6 +1,6 @@
 use Rattle.std.proofs.Common.{refl, true, false}
 use Rattle.scene_model.specs.declared.node_state.NodeState.{NodeState}
-use Rattle.scene_model.specs.Plans.{sought}
+use Rattle.scene_model.specs.Plans.{with_seek}
 use Rattle.scene_model.proofs.Steps.{node_set}
 use Rattle.scene_model.proofs.changes.make.Goals as goal
 
@@ -17,7 +17,7 @@ pub returns-in-Until : goal.returns-in-Until
 returns-in-Until c = rw c.in-Until.is (node_set (λ (n : NodeState). record n { until = c.in-Until.value }) c.args.nodes.now c.args.buses.now c.in-Until.node _ refl)
 
 pub returns-in-Seek : goal.returns-in-Seek
-returns-in-Seek c = rw c.in-Seek.is (node_set (sought c.in-Seek.place) c.args.nodes.now c.args.buses.now c.in-Seek.node _ c.seek.ensures)
+returns-in-Seek c = rw c.in-Seek.is (node_set (with_seek c.in-Seek.place) c.args.nodes.now c.args.buses.now c.in-Seek.node _ c.seek.ensures)
 
 pub returns-in-Loop : goal.returns-in-Loop
 returns-in-Loop c = rw c.in-Loop.is (node_set (λ (n : NodeState). record n { looped = c.in-Loop.on }) c.args.nodes.now c.args.buses.now c.in-Loop.node _ refl)

@@ -31,7 +31,7 @@ returns-clause-rendered c =
     record {
       before = c.in_ok-play_all.ensures.before;
       summary_is =
-          c.noted-self.ensures (interleaved (frames_before s c.args.self.now)) (data_of s (frames_before s c.args.self.now)) c.requires.rendered.summary_is
+          c.extended-self.ensures (interleaved (frames_before s c.args.self.now)) (data_of s (frames_before s c.args.self.now)) c.requires.rendered.summary_is
           ∙ ap (λ xs. summary (interleaved (frames_before s c.args.self.now) ++ xs) (data_of s (frames_before s c.args.self.now) ++ c.as_slice-3.result.now)) (c.as_slice-2.ensures.value ∙ samples)
           ∙ ap (λ xs. summary (interleaved (frames_before s c.args.self.now) ++ interleaved (frames_from p.clips.items s p.time count)) (data_of s (frames_before s c.args.self.now) ++ xs)) (c.as_slice-3.ensures.value ∙ bytes)
           ∙ ap (λ xs. summary xs (data_of s (frames_before s c.args.self.now) ++ data_of s (frames_from p.clips.items s p.time count))) (sym (samples-join p.clips.items s p.time count q.time next.0))

@@ -22,14 +22,14 @@ make_due-place-requires-clause-nodes c =
     let most = c.requires.before.player.scene_is.nodes_most in
     omega (arith, ap length c.as_mut_slice-cursors.ensures.value)
 
-pub in_order-requires-clause-no_cycle : goal.in_order-requires-clause-no_cycle
-in_order-requires-clause-no_cycle c = subst (λ (bs : List Bus). HasNoCycle bs) (sym c.buses.ensures.value) c.buses.ensures.plan.no_cycle
+pub topological_order-requires-clause-no_cycle : goal.topological_order-requires-clause-no_cycle
+topological_order-requires-clause-no_cycle c = subst (λ (bs : List Bus). HasNoCycle bs) (sym c.buses.ensures.value) c.buses.ensures.plan.no_cycle
 
-pub in_order-requires-clause-buses : goal.in_order-requires-clause-buses
-in_order-requires-clause-buses c = rw c.buses.ensures.value (within_most c.make_due-place.new.plan c.buses.ensures.plan)
+pub topological_order-requires-clause-buses : goal.topological_order-requires-clause-buses
+topological_order-requires-clause-buses c = rw c.buses.ensures.value (within_most c.make_due-place.new.plan c.buses.ensures.plan)
 
-pub in_order-requires-clause-most : goal.in_order-requires-clause-most
-in_order-requires-clause-most c =
+pub topological_order-requires-clause-most : goal.topological_order-requires-clause-most
+topological_order-requires-clause-most c =
     let s = c.args.scene.now in
     let t = c.args.self.now.time in
     let before = c.requires.before in
@@ -51,7 +51,7 @@ returns-in_ok-self-clause-at c =
       cursors_are = λ n. cursor_due s c.args.self.now.clips.items edits t n (slice_index c.as_slice-frames.result.now n) (slice_index c.as_mut_slice-cursors.result.now n) (slice_index c.make_due-place.new.cursors n) in_order (ap (λ (xs : List ℕ). slice_index xs n) c.as_slice-frames.ensures ∙ before.player.frames_are n) (ap (λ (xs : List ℕ). slice_index xs n) c.as_mut_slice-cursors.ensures.value ∙ before.cursors_are n) (c.make_due-place.ensures.cursors n);
       next = subst (λ (es : List NumberedEdit). IsNext es (t + 1) c.make_due-place.result) c.as_slice-edits.ensures c.make_due-place.ensures.next;
       can = subst (λ (es : List NumberedEdit). CanMakeAll c.make_due-place.new.plan (drop c.make_due-place.result es)) c.as_slice-edits.ensures c.make_due-place.ensures.can;
-      moved = subst (λ (bs : List Bus). IsPermutation bs c.in_ok-self.field-0.items) c.buses.ensures.value c.in_ok-self.ensures.moved;
+      permutation = subst (λ (bs : List Bus). IsPermutation bs c.in_ok-self.field-0.items) c.buses.ensures.value c.in_ok-self.ensures.permutation;
       ordered = c.in_ok-self.ensures.ordered;
     }
 
@@ -75,6 +75,6 @@ returns-else-place-self-clause-at c =
       cursors_are = λ n. cursor_due s c.args.self.now.clips.items edits t n (slice_index c.as_slice-frames.result.now n) (slice_index c.as_mut_slice-cursors.result.now n) (slice_index c.make_due-place.new.cursors n) in_order (ap (λ (xs : List ℕ). slice_index xs n) c.as_slice-frames.ensures ∙ before.player.frames_are n) (ap (λ (xs : List ℕ). slice_index xs n) c.as_mut_slice-cursors.ensures.value ∙ before.cursors_are n) (c.make_due-place.ensures.cursors n);
       next = next;
       can = subst (λ (k : ℕ). CanMakeAll c.make_due-place.new.plan (drop k c.args.self.now.edits)) same can;
-      moved = subst (λ (p : PlanData). IsPermutation p.buses c.args.self.now.wires.items) (sym unchanged) before.moved;
+      permutation = subst (λ (p : PlanData). IsPermutation p.buses c.args.self.now.ordered_buses.items) (sym unchanged) before.permutation;
       ordered = before.ordered;
     }

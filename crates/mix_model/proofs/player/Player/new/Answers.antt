@@ -16,11 +16,11 @@ use Rattle.mix_model.proofs.ScenePlans.{buses_most_before}
 use Rattle.mix_model.proofs.Starting.{plan_start, cursor_start, next_start, can_start, channels_start}
 use Rattle.mix_model.proofs.player.Player.new.Goals as goal
 
-pub in_order-requires-clause-no_cycle : goal.in_order-requires-clause-no_cycle
-in_order-requires-clause-no_cycle c = subst (λ (bs : List Bus). HasNoCycle bs) (sym c.buses.ensures.value) c.buses.ensures.plan.no_cycle
+pub topological_order-requires-clause-no_cycle : goal.topological_order-requires-clause-no_cycle
+topological_order-requires-clause-no_cycle c = subst (λ (bs : List Bus). HasNoCycle bs) (sym c.buses.ensures.value) c.buses.ensures.plan.no_cycle
 
-pub in_order-requires-clause-most : goal.in_order-requires-clause-most
-in_order-requires-clause-most c =
+pub topological_order-requires-clause-most : goal.topological_order-requires-clause-most
+topological_order-requires-clause-most c =
     let s = c.args.scene.now in
     let is : IsScene s = subst (λ (q : SceneData). IsScene q) c.scene.view_is c.scene.invariant in
     let most : length (opening s).buses ≤ limits.most_buses = subst (λ (p : PlanData). length p.buses ≤ limits.most_buses) (plan_start s) (buses_most_before s 0 is) in
@@ -45,6 +45,6 @@ returns-clause-before c =
       cursors_are = λ n. zeros_at _ 129 n refl ∙ sym (cursor_start clips s n);
       next = next_start c.in_ok-edits.edits;
       can = rw c.in_ok-plan.ensures (can_start s c.in_ok-edits.edits is edits_are);
-      moved = subst (λ (bs : List Bus). IsPermutation bs c.in_ok-wires.wires.items) c.buses.ensures.value c.in_ok-wires.ensures.moved;
-      ordered = c.in_ok-wires.ensures.ordered;
+      permutation = subst (λ (bs : List Bus). IsPermutation bs c.in_ok-ordered_buses.ordered_buses.items) c.buses.ensures.value c.in_ok-ordered_buses.ensures.permutation;
+      ordered = c.in_ok-ordered_buses.ensures.ordered;
     }

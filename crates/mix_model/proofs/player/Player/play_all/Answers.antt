@@ -1,7 +1,7 @@
 use Rattle.std.proofs.Common.{arith, ap, refl, sym, append-nil, ◌∙◌, ◌++◌, List}
 use Rattle.clip_decode.specs.Frames.{interleaved}
 use Rattle.scene_clips.specs.SceneClipData.{SceneClipData}
-use Rattle.mix_model.specs.Mix.{moment}
+use Rattle.mix_model.specs.Mix.{frame_state}
 use Rattle.mix_model.specs.Signals.{frame}
 use Rattle.mix_model.proofs.Frames.{frames_more}
 use Rattle.mix_model.proofs.player.Player.play_all.Goals as goal
@@ -24,5 +24,5 @@ loop-preserved c =
       before = c.in_ok-play.ensures.before;
       time = omega arith;
       clips = next.1 ∙ now.clips;
-      samples = frames_more c.args.self.now.clips.items s c.args.self.now.time c.loop.counter c.loop.self.time c.args.samples.now.items c.loop.samples.items c.play.new.samples.items now.time now.samples (c.in_ok-play.ensures.samples ∙ ap (λ (cs : List SceneClipData). c.loop.samples.items ++ frame (moment cs s c.loop.self.time) s.channels) now.clips);
+      samples = frames_more c.args.self.now.clips.items s c.args.self.now.time c.loop.counter c.loop.self.time c.args.samples.now.items c.loop.samples.items c.play.new.samples.items now.time now.samples (c.in_ok-play.ensures.samples ∙ ap (λ (cs : List SceneClipData). c.loop.samples.items ++ frame (frame_state cs s c.loop.self.time) s.channels) now.clips);
     }

@@ -1,4 +1,4 @@
--- What a scene hears of a file.
+-- A file's frames at a scene's rate and in its channels.
 use Rattle.std.proofs.Common.{◌≡◌, ℕ, List, [], length, map, ap, arith}
 use Rattle.std.specs.Prelude.{Err}
 use Rattle.std.specs.List.{range_with_len}

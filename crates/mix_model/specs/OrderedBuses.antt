@@ -1,5 +1,5 @@
--- The lists over which a frame is computed: the nodes, the buses in an order in which each input is whole before it is handed
--- on, the cursors, and the sums and marks of nodes so far.
+-- The lists over which a frame is computed: the nodes, the buses in a topological order, the cursors, and the sums and marks
+-- of nodes so far.
 use Rattle.std.specs.Prelude.{◌≡◌, ◌≢◌, ◌<◌, ◌≤◌, ℕ, ◌*◌, Bool, false, ◌&&◌, ◌||◌, ◌==◌, ℤ, pos, neg_ℤ, ◌+ℤ◌, ◌≤ℤ◌, List, length, None, Some, All, slice_index, slice_index_or, if◌then◌else◌}
 use Rattle.mix_fixed.specs.Sound.{sat24}
 use Rattle.scene_clips.specs.SceneClipData.{SceneClipData}
@@ -9,9 +9,9 @@ use Rattle.scene_model.specs.IsPlan.{IsBusOf}
 use Rattle.scene_model.specs.Limits as limits
 use Rattle.scene_model.specs.PlanData.{PlanData}
 use Rattle.scene_model.specs.Reach.{HasNoCycle, target_passes}
-use Rattle.mix_model.specs.Mix.{moved}
+use Rattle.mix_model.specs.Mix.{next_frame}
 use Rattle.mix_model.specs.Pulled.{no_node, node, is_active}
-use Rattle.mix_model.specs.Signals.{Moment, share}
+use Rattle.mix_model.specs.Signals.{FrameState, share}
 
 -- what a read past the end gives
 abbrev pub no_bus : Bus
@@ -20,15 +20,15 @@ no_bus = record { node = 0; out = 0; to = None; gain = 0 }
 abbrev pub plan_of : List NodeState → List Bus → PlanData
 plan_of nodes buses = record { nodes = nodes; buses = buses }
 
-abbrev pub moment_of : List NodeState → List Bus → ℕ → List SceneClipData → List ℕ → Moment
-moment_of nodes buses time clips cursors = record { plan = plan_of nodes buses; time = time; clips = clips; cursor = λ n. slice_index cursors n }
+abbrev pub frame_state_of : List NodeState → List Bus → ℕ → List SceneClipData → List ℕ → FrameState
+frame_state_of nodes buses time clips cursors = record { plan = plan_of nodes buses; time = time; clips = clips; cursor = λ n. slice_index cursors n }
 
--- no bus leads to its own node, nor to the node of a bus before it
+-- a topological order: no bus leads to its own node, nor to the node of a bus before it
 abbrev pub IsOrdered : List Bus → Type 0
 IsOrdered buses = (j k : ℕ) → j ≤ k → k < length buses → (slice_index_or buses k no_bus).to ≢ Some (slice_index_or buses j no_bus).node
 
 -- these many nodes' buses, in order
-pub record AreWires (nodes : ℕ) (buses : List Bus) : Type 0 where
+pub record AreOrderedBuses (nodes : ℕ) (buses : List Bus) : Type 0 where
   pub ordered : IsOrdered buses
   pub no_cycle : HasNoCycle buses
   pub buses_are : All (IsBusOf nodes) buses
@@ -43,8 +43,8 @@ abbrev pub sum_at : List ℤ → ℕ → ℤ
 sum_at sums n = slice_index_or sums n (pos 0)
 
 -- each sum has grown by what the bus adds, where each input is the sum so far in 24 bits
-abbrev pub IsPoured : Moment → ℕ → Bus → List ℤ → List ℤ → Type 0
-IsPoured m channel b old new = (n : ℕ) → n < length old → sum_at new n ≡ sum_at old n +ℤ share m channel (λ k. sat24 (sum_at old k)) n b
+abbrev pub ShareAdded : FrameState → ℕ → Bus → List ℤ → List ℤ → Type 0
+ShareAdded m channel b old new = (n : ℕ) → n < length old → sum_at new n ≡ sum_at old n +ℤ share m channel (λ k. sat24 (sum_at old k)) n b
 
 -- x is within count times the greatest magnitude of a scaled sample
 pub record IsWithin (count : ℕ) (x : ℤ) : Type 0 where
@@ -65,4 +65,4 @@ IsMarked p t b old new =
 -- the cursor of node n after a frame: it moves where the node is marked, and stays elsewhere
 abbrev pub cursor_after : List NodeState → List Bool → List ℕ → List ℕ → ℕ → ℕ
 cursor_after nodes marks frames cursors n =
-    if mark_at marks n then moved (slice_index frames n) (slice_index_or nodes n no_node).looped (slice_index cursors n) else slice_index cursors n
+    if mark_at marks n then next_frame (slice_index frames n) (slice_index_or nodes n no_node).looped (slice_index cursors n) else slice_index cursors n

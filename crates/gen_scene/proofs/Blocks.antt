@@ -5,11 +5,14 @@ use Rattle.snd_io.specs.declared.answers.Put.{Put}
 use Rattle.snd_io.specs.declared.answers.Put.TheVariants.{Done, Failed, OutOfMemory}
 use Rattle.snd_io.specs.Files.{Told}
 use Rattle.snd_io.specs.Answers.{Appends}
-use Rattle.snd_io.specs.Runs.{GrowsBy, RunOfAppends, GrowsBy-then, GrowsBy-nothing, run-then, run-failed, run-out_of_memory, run-append}
+use Rattle.snd_io.specs.Runs.{GrowsBy, RunOfAppends}
+use Rattle.snd_io.proofs.RunLemmas.{GrowsBy-then, GrowsBy-nothing, run-then, run-failed, run-out_of_memory, run-append}
 use Rattle.wave_write.specs.Samples.{packed, packed_sample}
-use Rattle.gen_scene.specs.Draws.{state, state-resumed, state-start}
+use Rattle.gen_scene.specs.Draws.{state}
+use Rattle.gen_scene.proofs.DrawLemmas.{state-resumed, state-start}
 use Rattle.wave_write.specs.Header.{header}
-use Rattle.gen_scene.specs.Sounds.{noise, noise_bytes, noise-join, noise-resumed, sound_channels, sound_rate, sound_samples}
+use Rattle.gen_scene.specs.Sounds.{noise, noise_bytes, sound_channels, sound_rate, sound_samples}
+use Rattle.gen_scene.proofs.NoiseLemmas.{noise-join, noise-resumed}
 
 pub IfSome-both : {A : Type 0} {P Q R : A → Type 0} (o : Option A) → ((x : A) → P x → Q x → R x) → IfSome o P → IfSome o Q → IfSome o R
 IfSome-both None f p q = tt

@@ -1,3 +1,5 @@
 pub mod Blocks
 pub mod Filling
 pub mod Pieces
+pub mod DrawLemmas
+pub mod NoiseLemmas

@@ -3,7 +3,8 @@ use Rattle.std.proofs.Common.{◌≡◌, ℕ, ◌+◌, zero, suc, List, ◌++◌
 use Rattle.std.specs.List.{flat_map, range_with_len}
 use Rattle.std.specs.Prelude.{◌*◌}
 use Rattle.gen_scene.specs.Script.{rows}
-use Rattle.gen_scene.specs.Draws.{state, stepped, drawn, draw, state-start, state-step}
+use Rattle.gen_scene.specs.Draws.{state, stepped, drawn, draw}
+use Rattle.gen_scene.proofs.DrawLemmas.{state-start, state-step}
 
 flat_more : (f : ℕ → List ℕ) (a n : ℕ) → flat_map f (range_with_len a (n + 1)) ≡ flat_map f (range_with_len a n) ++ f (a + n)
 flat_more f a zero = let e : a + 0 ≡ a = omega arith in rw e (append-nil (f a))

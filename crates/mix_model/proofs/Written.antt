@@ -12,7 +12,7 @@ use Rattle.clip_decode.specs.Frames.{interleaved}
 use Rattle.scene_clips.specs.SceneClipData.{SceneClipData}
 use Rattle.scene_model.specs.SceneData.{SceneData}
 use Rattle.snd_io.specs.Answers.{IsPrefix, Writes}
-use Rattle.snd_io.specs.Runs.{writes-then, writes-failed, writes-out_of_memory}
+use Rattle.snd_io.proofs.RunLemmas.{writes-then, writes-failed, writes-out_of_memory}
 use Rattle.wave_write.specs.Header.{header, data_bytes}
 use Rattle.wave_write.specs.Samples.{packed_sample, packed}
 use Rattle.mix_model.specs.declared.blocks.Blocks.{Blocks}

@@ -2,7 +2,7 @@
 use Rattle.std.proofs.Common.{◌≡◌, ◌≢◌, ℕ, List, [], ◌∷◌, ◌++◌, Some, sym, string_bytes, None, length, arith}
 use Rattle.std.specs.FinMap.{get, get-empty}
 use Rattle.snd_io.specs.declared.entries.Entry.{Entry}
-use Rattle.snd_io.specs.Files.{get-put_file, get-put_other, extend_file-put_file}
+use Rattle.snd_io.proofs.FileLemmas.{get-put_file, get-put_other, extend_file-put_file}
 use Rattle.snd_io.specs.Fakes.{files_of, ExtendsFirst}
 
 -- the entry that is met has the name

@@ -1,1 +1,5 @@
 pub mod EntryLists
+pub mod FileLemmas
+pub mod PrefixLemmas
+pub mod FaultLemmas
+pub mod RunLemmas

@@ -1,8 +1,6 @@
 -- What each answer of a store of files or of a sink says.
-use Rattle.std.specs.Prelude.{◌≡◌, ℕ, ◌<◌, ◌≤◌, ◌⊎◌, List, [], ◌++◌, length, take, drop, refl, Option, Some, None, IsSomeAnd, Bool, true, false}
+use Rattle.std.specs.Prelude.{◌≡◌, ℕ, ◌<◌, ◌≤◌, ◌⊎◌, List, [], ◌++◌, length, Option, Some, None, IsSomeAnd, Bool, true, false}
 use Rattle.std.specs.Option.{option_map}
-use Rattle.std.proofs.Common.{sym, ◌∙◌, ap, append-nil, append_assoc}
-use Rattle.std.proofs.lemmas.List.{take-append-drop}
 use Rattle.snd_io.specs.declared.answers.Fetch.{Fetch}
 use Rattle.snd_io.specs.declared.answers.Fetch.TheVariants.{Fetched, Absent, TooLong, Failed as FetchFailed, OutOfMemory as FetchOutOfMemory}
 use Rattle.snd_io.specs.declared.answers.Put.{Put}
@@ -24,19 +22,6 @@ put_failed OutOfMemory = false
 -- the second list begins with the first
 abbrev pub IsPrefix : List ℕ → List ℕ → Type 0
 IsPrefix part whole = (rest : List ℕ) × (whole ≡ part ++ rest)
-
-pub IsPrefix-all : (bytes : List ℕ) → IsPrefix bytes bytes
-IsPrefix-all bytes = ([], sym (append-nil bytes))
-
-pub IsPrefix-none : (bytes : List ℕ) → IsPrefix [] bytes
-IsPrefix-none bytes = (bytes, refl)
-
-pub IsPrefix-take : (count : ℕ) (bytes : List ℕ) → IsPrefix (take count bytes) bytes
-IsPrefix-take count bytes = (drop count bytes, sym (take-append-drop count bytes))
-
-pub IsPrefix-trans : (part middle whole : List ℕ) → IsPrefix part middle → IsPrefix middle whole → IsPrefix part whole
-IsPrefix-trans part middle whole (more, first) (rest, second) =
-    (more ++ rest, second ∙ ap (λ bytes. bytes ++ rest) first ∙ append_assoc part more rest)
 
 -- what the answer says of the file that was asked for, where the files are told
 abbrev pub FetchTells : Fetch → Option (List ℕ) → ℕ → List ℕ → Type 0

@@ -5,7 +5,8 @@ use Rattle.snd_io.specs.declared.answers.Put.{Put}
 use Rattle.snd_io.specs.declared.answers.Put.TheVariants.{Done, Failed, OutOfMemory}
 use Rattle.snd_io.specs.Answers.{Appends}
 use Rattle.snd_io.specs.Files.{Told, put_file}
-use Rattle.snd_io.specs.Runs.{SetsFile, run-append, set-run, set-failed}
+use Rattle.snd_io.specs.Runs.{SetsFile}
+use Rattle.snd_io.proofs.RunLemmas.{run-append, set-run, set-failed}
 use Rattle.snd_tools.proofs.Outcomes.{IfSome-at}
 
 pub set-appended : (answer : Put) (name bytes : List ℕ) (before created after : Told) (opened left : Option (List ℕ))

@@ -1,7 +1,8 @@
 -- From what the parts of a command gave to what its status says.
 use Rattle.std.proofs.Common.{◌≡◌, ◌⊎◌, ℕ, true, List, [], ◌∷◌, Option, Some, None, Result, Ok, Err, IfSome, String, Global, string_bytes, refl, ◌∙◌, ap, sym, subst, inl, inr}
 use Rattle.std.specs.Option.{option_map}
-use Rattle.snd_io.specs.Answers.{IsPrefix, IsPrefix-all}
+use Rattle.snd_io.specs.Answers.{IsPrefix}
+use Rattle.snd_io.proofs.PrefixLemmas.{IsPrefix-all}
 use Rattle.snd_io.specs.Files.{Files, Told, put_file}
 use Rattle.snd_status.specs.declared.status.Status.{Status}
 use Rattle.snd_status.specs.declared.status.Status.TheVariants.{Done, OutOfMemory, Usage, DepotFault, Absent, TooLong, Script, File, TextFault}

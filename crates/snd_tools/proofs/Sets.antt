@@ -8,8 +8,10 @@ use Rattle.snd_io.specs.declared.answers.Put.{Put}
 use Rattle.snd_io.specs.declared.answers.Put.TheVariants.{Done, Failed, OutOfMemory}
 use Rattle.snd_io.specs.Files.{Files, Told, put_file}
 use Rattle.snd_io.specs.Runs.{SetsFile}
-use Rattle.gen_scene.specs.Draws.{state, state-resumed}
-use Rattle.gen_scene.specs.Sounds.{sounds, first_draw, sound_samples, sound_name, sound_file, sound_from, sound_from-is}
+use Rattle.gen_scene.specs.Draws.{state}
+use Rattle.gen_scene.proofs.DrawLemmas.{state-resumed}
+use Rattle.gen_scene.specs.Sounds.{sounds, first_draw, sound_samples, sound_name, sound_file, sound_from}
+use Rattle.gen_scene.proofs.NoiseLemmas.{sound_from-is}
 use Rattle.snd_tools.specs.Meets.{put_all, IsWrittenInPart, IsSetInPart, SetsAll}
 use Rattle.snd_tools.specs.Outcome.{OutputFile, sound_output, sound_outputs}
 

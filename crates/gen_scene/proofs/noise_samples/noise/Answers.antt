@@ -1,6 +1,7 @@
 use Rattle.std.proofs.Common.{rules, w32, ◌∙◌, ap, sym}
 use Rattle.std.proofs.lemmas.Int.{to_z-of_z}
-use Rattle.gen_scene.specs.Draws.{state-step, state-start, stepped, drawn}
+use Rattle.gen_scene.specs.Draws.{stepped, drawn}
+use Rattle.gen_scene.proofs.DrawLemmas.{state-step, state-start}
 use Rattle.gen_scene.specs.Sounds.{noise_sample, sample_of}
 use Rattle.gen_scene.proofs.Filling.{filled_more}
 use Rattle.gen_scene.proofs.noise_samples.noise.Goals as goal

@@ -1,5 +1,6 @@
 use Rattle.std.proofs.Common.{string_bytes, ◌∙◌, ap, sym}
-use Rattle.gen_scene.specs.Draws.{stepped, state-start, state-step}
+use Rattle.gen_scene.specs.Draws.{stepped}
+use Rattle.gen_scene.proofs.DrawLemmas.{state-start, state-step}
 use Rattle.gen_scene.specs.Script.{group_bus_lines, player_bus}
 use Rattle.gen_scene.proofs.Pieces.{text_more, text_start}
 use Rattle.gen_scene.proofs.script_text.push_buses.Goals as goal

@@ -1,5 +1,5 @@
 use Rattle.std.proofs.Common.{string_bytes, ◌∙◌, sym}
-use Rattle.gen_scene.specs.Draws.{state-start}
+use Rattle.gen_scene.proofs.DrawLemmas.{state-start}
 use Rattle.gen_scene.specs.Script.{edit_row}
 use Rattle.gen_scene.proofs.Pieces.{text_more, text_start, three_steps}
 use Rattle.gen_scene.proofs.script_text.push_edits.Goals as goal

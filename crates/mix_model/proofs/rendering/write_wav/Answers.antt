@@ -3,7 +3,7 @@ use Rattle.std.proofs.lemmas.Result.{err_from_is_err_and}
 use Rattle.snd_io.specs.declared.answers.Put.{Put}
 use Rattle.snd_io.specs.declared.answers.Put.TheVariants.{Done}
 use Rattle.snd_io.specs.Answers.{Writes}
-use Rattle.snd_io.specs.Runs.{writes-then}
+use Rattle.snd_io.proofs.RunLemmas.{writes-then}
 use Rattle.wave_write.specs.Header.{header, data_bytes}
 use Rattle.mix_model.specs.Mix.{frames_from}
 use Rattle.mix_model.specs.Output.{padding}

@@ -1,4 +1,4 @@
-use Rattle.snd_io.specs.Answers.{IsPrefix-take}
+use Rattle.snd_io.proofs.PrefixLemmas.{IsPrefix-take}
 use Rattle.snd_io.proofs.snag.first_bytes.Goals as goal
 
 pub returns-clause-prefix : goal.returns-clause-prefix

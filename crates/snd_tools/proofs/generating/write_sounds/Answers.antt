@@ -1,6 +1,6 @@
 use Rattle.std.proofs.Common.{refl, sym, arith}
 use Rattle.snd_io.specs.declared.answers.Put.TheVariants.{Done, Failed, OutOfMemory}
-use Rattle.gen_scene.specs.Draws.{state-start}
+use Rattle.gen_scene.proofs.DrawLemmas.{state-start}
 use Rattle.snd_tools.proofs.Sets.{draws-more, nothing-set, sounds-more, sounds-stopped, sounds-whole}
 use Rattle.snd_tools.proofs.generating.write_sounds.Goals as goal
 

@@ -11,3 +11,4 @@ pub mod Sizes
 pub mod Summary
 pub mod Turns
 pub mod Wires
+pub mod ReadBack

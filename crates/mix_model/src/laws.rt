@@ -1,17 +1,21 @@
 //! Laws of the mix, for readers of its definitions. The functions do nothing.
 
-ghost use Rattle.std.specs.Prelude.{◌≡◌, ◌<◌, ◌≤◌, ◌++◌, [], ◌∷◌, ℕ, Bool, ℤ, pos, List, replicate};
+ghost use Rattle.std.specs.Prelude.{◌≡◌, ◌<◌, ◌≤◌, ◌++◌, [], ◌∷◌, ℕ, Bool, ℤ, pos, List, Ok, replicate};
 ghost use Rattle.std.specs.List.Sorted.{IsPermutation};
 ghost use Rattle.scene_clips.specs.SceneClipData.{SceneClipData};
 ghost use Rattle.scene_model.specs.declared.bus.Bus.{Bus};
 ghost use Rattle.scene_model.specs.declared.edit.EditRow.{EditRow};
+ghost use Rattle.scene_model.specs.IsScene.{IsScene};
 ghost use Rattle.scene_model.specs.PlanData.{PlanData};
 ghost use Rattle.scene_model.specs.Reach.{HasNoCycle};
 ghost use Rattle.scene_model.specs.SceneData.{SceneData};
 ghost use Rattle.scene_model.specs.Times.{edits_at, plan};
+ghost use Rattle.wave_read.specs.Wave.{wave};
 ghost use Rattle.mix_model.specs.Laws.{with_buses, NoneAttached, with_edits, IsUntouched};
 ghost use Rattle.mix_model.specs.Mix.{cursor, mix};
+ghost use Rattle.mix_model.specs.Output.{wav};
 ghost use Rattle.mix_model.specs.Pulled.{endpoint, pulled_by, pulled};
+ghost use Rattle.mix_model.specs.ReadBack.{AreFramesOf, written_wave};
 ghost use Rattle.mix_model.specs.Signals.{Moment, input_by, input};
 ghost use Rattle.mix_model.specs.Turns.{Keeps};
 
@@ -58,4 +62,11 @@ pub fn edits_past_the_end_change_nothing()
 /// A law: a node that was never pulled keeps its cursor at its first frame until it is sought.
 pub fn what_is_not_pulled_does_not_move()
     ensures { (clips : List SceneClipData) (s : SceneData) (n t : ℕ) → IsUntouched s n t → cursor clips s n t ≡ 0 }
+{}
+
+/// A law: the WAVE file of a scene, read by the rules of the reader, says the scene's rate, channels,
+/// width and length.
+pub fn what_is_written_is_read_back()
+    ensures wave { (s : SceneData) (written : List (List ℤ)) → IsScene s → AreFramesOf s written →
+        wave (wav s written) ≡ Ok (written_wave s) }
 {}

@@ -1,7 +1,11 @@
 //! Laws of the mix, for readers of its definitions. The functions do nothing.
 
-ghost use Rattle.std.specs.Prelude.{◌≡◌, ◌<◌, ◌≤◌, ◌++◌, [], ◌∷◌, ℕ, Bool, ℤ, pos, List, Ok, replicate};
+ghost use Rattle.std.specs.Prelude.{◌≡◌, ◌<◌, ◌≤◌, ◌++◌, [], ◌∷◌, ℕ, Bool, ℤ, pos, List, map, All, Ok, replicate};
+ghost use Rattle.std.specs.Int.{int_div_euclid};
 ghost use Rattle.std.specs.List.Sorted.{IsPermutation};
+ghost use Rattle.clip_decode.specs.Frames.{frames, interleaved};
+ghost use Rattle.clip_decode.specs.Widened.{widened};
+ghost use Rattle.mix_fixed.specs.Sound.{Is24};
 ghost use Rattle.scene_clips.specs.SceneClipData.{SceneClipData};
 ghost use Rattle.scene_model.specs.declared.bus.Bus.{Bus};
 ghost use Rattle.scene_model.specs.declared.edit.EditRow.{EditRow};
@@ -65,8 +69,19 @@ pub fn what_is_not_pulled_does_not_move()
 {}
 
 /// A law: the WAVE file of a scene, read by the rules of the reader, says the scene's rate, channels,
-/// width and length.
+/// width and length. At a width of 24 bits its frames are the very frames that were written, and at
+/// 16 bits each sample is the greatest multiple of 256 that is not above the one that was written.
+/// So it is for the mix of a scene.
 pub fn what_is_written_is_read_back()
     ensures wave { (s : SceneData) (written : List (List ℤ)) → IsScene s → AreFramesOf s written →
         wave (wav s written) ≡ Ok (written_wave s) }
+    ensures frames { (s : SceneData) (written : List (List ℤ)) → IsScene s → AreFramesOf s written →
+        All Is24 (interleaved written) → s.width ≡ 24 → frames (wav s written) ≡ written }
+    ensures frames_16 { (s : SceneData) (written : List (List ℤ)) → IsScene s → AreFramesOf s written →
+        All Is24 (interleaved written) → s.width ≡ 16 →
+        frames (wav s written) ≡ map (map (λ x. widened (int_div_euclid x (pos 256)))) written }
+    ensures mix_wave { (s : SceneData) (files : List (List ℕ)) → IsScene s →
+        wave (wav s (mix s files)) ≡ Ok (written_wave s) }
+    ensures mix { (s : SceneData) (files : List (List ℕ)) → IsScene s → s.width ≡ 24 →
+        frames (wav s (mix s files)) ≡ mix s files }
 {}

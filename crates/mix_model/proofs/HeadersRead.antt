@@ -145,11 +145,22 @@ module _ (channels rate width frames : ℕ) (sound pad : List ℕ) where
 
   pub wave_read_back : IsWritable channels rate width → size < 4294967296 → length sound ≡ size → length pad ≡ pad_bytes size
       → wave file
-      ≡ Ok (record { kind = Pcm; channels = channels; rate = rate; width = width; align = frame_bytes channels width; data_from = 44; data_len = size; frames = frames })
+      ≡ Ok (record {
+        kind = Pcm;
+        channels = channels;
+        rate = rate;
+        width = width;
+        align = frame_bytes channels width;
+        data_from = 44;
+        data_len = size;
+        frames = frames;
+      })
   unfolding wave wave_of told_by chunks
   wave_read_back limits small len padded =
       let bytes_least : 1 ≤ frame_bytes channels width =
       mul-le 1 1 channels (width / 8) limits.channels_least (omega (arith, limits.width_least)) in
       let count : size / frame_bytes channels width ≡ frames = mul-div_cancel frames {n = frame_bytes channels width} bytes_least in
-      ap (wave_of file) (only_list None file first_chunk (chunks_of file) chunks (rw opened (list_there None file (length file) first_chunk (omega arith))) (chunks_are small len padded))
+      let there : ChunksFrom None file first_chunk (chunks_of file) =
+      rw opened (list_there None file (length file) first_chunk (omega arith)) in
+      ap (wave_of file) (only_list None file first_chunk (chunks_of file) chunks there (chunks_are small len padded))
       ∙ rw (opened, format_read channels rate width limits, len, count) refl

@@ -71,7 +71,7 @@ pub fn what_is_not_pulled_does_not_move()
 /// A law: the WAVE file of a scene, read by the rules of the reader, says the scene's rate, channels,
 /// width and length. At a width of 24 bits its frames are the very frames that were written, and at
 /// 16 bits each sample is the greatest multiple of 256 that is not above the one that was written.
-/// So it is for the mix of a scene.
+/// The frames of a mix are such frames: written at 24 bits and read back, they are the mix.
 pub fn what_is_written_is_read_back()
     ensures wave { (s : SceneData) (written : List (List ℤ)) → IsScene s → AreFramesOf s written →
         wave (wav s written) ≡ Ok (written_wave s) }

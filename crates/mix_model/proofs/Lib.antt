@@ -3,11 +3,14 @@ pub mod CursorLaws
 pub mod Deepening
 pub mod DueEdits
 pub mod Frames
+pub mod HeadersRead
 pub mod Inputs
 pub mod Iterating
 pub mod Marks
+pub mod PackedSamples
 pub mod Pulls
 pub mod Ranks
+pub mod RoundTrip
 pub mod SceneLaws
 pub mod ScenePlans
 pub mod Starting

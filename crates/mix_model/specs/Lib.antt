@@ -12,3 +12,4 @@ pub mod Rendering
 pub mod Signals
 pub mod Sizes
 pub mod Summary
+pub mod ReadBack

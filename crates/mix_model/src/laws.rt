@@ -1,19 +1,27 @@
 //! Laws of the mix, for readers of its definitions. The functions do nothing.
 
-ghost use Rattle.std.specs.Prelude.{◌≡◌, ◌<◌, ◌≤◌, ◌+◌, ◌%◌, ◌++◌, [], ◌∷◌, ℕ, Bool, true, false, ℤ, pos, List, min, replicate};
+ghost use Rattle.std.specs.Prelude.{◌≡◌, ◌<◌, ◌≤◌, ◌+◌, ◌%◌, ◌++◌, [], ◌∷◌, ℕ, Bool, true, false, ℤ, pos, List, map, All, Ok, min, replicate};
+ghost use Rattle.std.specs.Int.{int_div_euclid};
 ghost use Rattle.std.specs.List.Sorted.{IsPermutation};
+ghost use Rattle.clip_decode.specs.Frames.{frames, interleaved};
+ghost use Rattle.clip_decode.specs.Widened.{widened};
+ghost use Rattle.mix_fixed.specs.Sound.{Is24};
 ghost use Rattle.scene_clips.specs.SceneClipData.{SceneClipData};
 ghost use Rattle.scene_model.specs.declared.bus.Bus.{Bus};
 ghost use Rattle.scene_model.specs.declared.edit.EditRow.{EditRow};
+ghost use Rattle.scene_model.specs.IsScene.{IsScene};
 ghost use Rattle.scene_model.specs.PlanData.{PlanData};
 ghost use Rattle.scene_model.specs.Reach.{HasNoCycle};
 ghost use Rattle.scene_model.specs.SceneData.{SceneData};
 ghost use Rattle.scene_model.specs.Times.{edits_at, plan};
+ghost use Rattle.wave_read.specs.Wave.{wave};
+ghost use Rattle.mix_model.specs.Iteration.{Solves};
 ghost use Rattle.mix_model.specs.Laws.{with_buses, NoneAttached, with_edits, NoneSeeks, IsUntouched, PlaysOn};
 ghost use Rattle.mix_model.specs.Mix.{node_frames, cursor, mix};
+ghost use Rattle.mix_model.specs.Output.{wav};
 ghost use Rattle.mix_model.specs.Pulled.{endpoint, pulled_by, pulled};
+ghost use Rattle.mix_model.specs.ReadBack.{AreFramesOf, written_wave};
 ghost use Rattle.mix_model.specs.Signals.{FrameState, input_by, input};
-ghost use Rattle.mix_model.specs.Iteration.{Solves};
 
 /// A law: in a plan without a cycle, as every plan is, the inputs of all nodes solve their
 /// equations, and no other numbers do.
@@ -70,4 +78,22 @@ pub fn a_sound_plays_its_clip()
         cursor clips s n t ≡ min t (node_frames clips s n) }
     ensures looped { (clips : List SceneClipData) (s : SceneData) (n t : ℕ) → PlaysOn s n t true → 0 < node_frames clips s n →
         cursor clips s n t ≡ t % node_frames clips s n }
+{}
+
+/// A law: the WAVE file of a scene, read by the rules of the reader, says the scene's rate, channels,
+/// width and length. At a width of 24 bits its frames are the very frames that were written, and at
+/// 16 bits each sample is the greatest multiple of 256 that is not above the one that was written.
+/// The frames of a mix are such frames: written at 24 bits and read back, they are the mix.
+pub fn what_is_written_is_read_back()
+    ensures wave { (s : SceneData) (written : List (List ℤ)) → IsScene s → AreFramesOf s written →
+        wave (wav s written) ≡ Ok (written_wave s) }
+    ensures frames { (s : SceneData) (written : List (List ℤ)) → IsScene s → AreFramesOf s written →
+        All Is24 (interleaved written) → s.width ≡ 24 → frames (wav s written) ≡ written }
+    ensures frames_16 { (s : SceneData) (written : List (List ℤ)) → IsScene s → AreFramesOf s written →
+        All Is24 (interleaved written) → s.width ≡ 16 →
+        frames (wav s written) ≡ map (map (λ x. widened (int_div_euclid x (pos 256)))) written }
+    ensures mix_wave { (s : SceneData) (files : List (List ℕ)) → IsScene s →
+        wave (wav s (mix s files)) ≡ Ok (written_wave s) }
+    ensures mix { (s : SceneData) (files : List (List ℕ)) → IsScene s → s.width ≡ 24 →
+        frames (wav s (mix s files)) ≡ mix s files }
 {}

@@ -31,7 +31,7 @@ mod summary;
 pub use laws::{
     a_sound_plays_its_clip, edits_past_the_end_change_nothing, inputs_have_one_solution,
     pulls_have_one_solution, the_order_of_buses_makes_no_difference,
-    what_is_not_attached_is_silent, what_is_not_pulled_does_not_move,
+    what_is_not_attached_is_silent, what_is_not_pulled_does_not_move, what_is_written_is_read_back,
 };
 pub use mix_fault::MixFault;
 pub use rendering::plain_mix;

@@ -110,7 +110,7 @@ frames_are : (f : ℤ → ℤ) (s : SceneData) (written : List (List ℤ)) → (
 unfolding frames
 frames_are f s written value scene are range =
     let sample = sample_of (wav s written) (written_wave s) in
-    let row : ℕ → List ℤ = λ n. frame_by (sample n) s.channels in
+    let frame_at : ℕ → List ℤ = λ n. frame_by (sample n) s.channels in
     let samples = interleaved written in
     let count : length samples ≡ s.length * s.channels = rw (← are.count) (length_interleaved s.channels written are.widths) in
     let one : (n c : ℕ) → n < s.length → c < s.channels → sample n c ≡ f (get_or (get_or written n []) c (pos 0)) =
@@ -121,9 +121,9 @@ frames_are f s written value scene are range =
     ∙ ap f (interleaved_at s.channels written n c are.widths (rw are.count below) inside) in
     let width : (n : ℕ) → n < s.length → length (get_or written n []) ≡ s.channels =
     λ n below. All-get_or (λ (xs : List ℤ). length xs ≡ s.channels) written n [] (rw are.count below) are.widths in
-    let row_is : (n : ℕ) → n < s.length → row n ≡ map f (get_or written n []) =
+    let row_is : (n : ℕ) → n < s.length → frame_at n ≡ map f (get_or written n []) =
     λ n below.
-    ext_get_or (pos 0) (row n) (map f (get_or written n []))
+    ext_get_or (pos 0) (frame_at n) (map f (get_or written n []))
     (length-map-range_with_len (sample n) 0 s.channels ∙ sym (length-map (get_or written n []) f ∙ width n below))
     (λ c lt.
     let inside : c < s.channels = omega (arith, lt, length-map-range_with_len (sample n) 0 s.channels) in
@@ -132,10 +132,10 @@ frames_are f s written value scene are range =
     ∙ sym (get_or-map f (get_or written n []) c (pos 0) (pos 0) (rw (width n below) inside))) in
     rw (wave_is s written scene are)
     (ext_get_or [] (frames_by sample s.length s.channels) (map (map f) written)
-    (length-map-range_with_len row 0 s.length ∙ sym (length-map written (map f) ∙ are.count))
+    (length-map-range_with_len frame_at 0 s.length ∙ sym (length-map written (map f) ∙ are.count))
     (λ n lt.
-    let below : n < s.length = omega (arith, lt, length-map-range_with_len row 0 s.length) in
-    get_or-map-range_with_len row 0 s.length n n [] below (omega arith)
+    let below : n < s.length = omega (arith, lt, length-map-range_with_len frame_at 0 s.length) in
+    get_or-map-range_with_len frame_at 0 s.length n n [] below (omega arith)
     ∙ row_is n below
     ∙ sym (get_or-map (map f) written n [] [] (rw are.count below))))
 

@@ -6,8 +6,9 @@ import pathlib
 import random
 import re
 import subprocess
-import sys
 import tomllib
+
+import random_runs
 
 LAST = 16777216  # the greatest frame number that a script may say
 WHOLE = object()  # the key must be there
@@ -266,26 +267,20 @@ def random_script(r):
     return "\n".join(lines) + "\n"
 
 
-def main():
-    scenetool, count, first = sys.argv[1], int(sys.argv[2]), int(sys.argv[3])
-    refused = {}
-    for seed in range(first, first + count):
-        text = random_script(random.Random(seed))
-        pathlib.Path("scene.toml").write_text(text)
-        told = subprocess.run([scenetool, "mix", "scene.toml", "out.wav"], capture_output=True, text=True)
-        try:
-            read_script(text)
-            right = told.returncode == 0 or told.returncode == 4 and told.stdout.startswith("absent: ")
-            wanted = "no refusal of the script"
-        except Fault as fault:
-            wanted = f"script: {fault}"
-            right = (told.returncode, told.stdout) == (6, wanted + "\n")
-            name = str(fault).split()[0]
-            refused[name] = refused.get(name, 0) + 1
-        if not right:
-            sys.exit(f"script {seed}: {told.returncode} {told.stdout!r}, not {wanted!r}")
-    names = ", ".join(f"{name} {times}" for name, times in sorted(refused.items()))
-    print(f"{count} random scripts from number {first} on: the same answers, {sum(refused.values())} refusals ({names})")
+def compare(scenetool, seed):
+    text = random_script(random.Random(seed))
+    pathlib.Path("scene.toml").write_text(text)
+    told = subprocess.run([scenetool, "mix", "scene.toml", "out.wav"], capture_output=True, text=True)
+    found = None
+    try:
+        read_script(text)
+        right = told.returncode == 0 or told.returncode == 4 and told.stdout.startswith("absent: ")
+        wanted = "no refusal of the script"
+    except Fault as fault:
+        found = fault
+        wanted = f"script: {fault}"
+        right = (told.returncode, told.stdout) == (6, wanted + "\n")
+    return found, None if right else f"{told.returncode} {told.stdout!r}, not {wanted!r}"
 
 
-main()
+random_runs.run("script", compare)

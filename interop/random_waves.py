@@ -6,7 +6,8 @@ import pathlib
 import random
 import struct
 import subprocess
-import sys
+
+import random_runs
 
 GUID_TAIL = bytes.fromhex("000000001000800000AA00389B71")
 KINDS = {1: "pcm", 6: "alaw", 7: "ulaw", 17: "ima"}
@@ -157,23 +158,19 @@ def random_file(r):
     return file[:r.randrange(len(file))] if r.random() < 0.1 else file
 
 
-def main():
-    scenetool, count, first = sys.argv[1], int(sys.argv[2]), int(sys.argv[3])
-    refused = {}
-    for seed in range(first, first + count):
-        file = random_file(random.Random(seed))
-        pathlib.Path("file.wav").write_bytes(file)
-        try:
-            wanted = 0, info(file) + "\n"
-        except Fault as fault:
-            wanted = 7, f"file: 0: {fault}\n"
-            name = str(fault).split()[0]
-            refused[name] = refused.get(name, 0) + 1
-        told = subprocess.run([scenetool, "info", "file.wav"], capture_output=True, text=True)
-        if (told.returncode, told.stdout) != wanted:
-            sys.exit(f"file {seed}: {told.returncode} {told.stdout!r}, not {wanted}")
-    names = ", ".join(f"{name} {times}" for name, times in sorted(refused.items()))
-    print(f"{count} random WAVE files from number {first} on: the same answers, {sum(refused.values())} refusals ({names})")
+def compare(scenetool, seed):
+    file = random_file(random.Random(seed))
+    pathlib.Path("file.wav").write_bytes(file)
+    found = None
+    try:
+        wanted = 0, info(file) + "\n"
+    except Fault as fault:
+        found = fault
+        wanted = 7, f"file: 0: {fault}\n"
+    told = subprocess.run([scenetool, "info", "file.wav"], capture_output=True, text=True)
+    if (told.returncode, told.stdout) != wanted:
+        return found, f"{told.returncode} {told.stdout!r}, not {wanted}"
+    return found, None
 
 
-main()
+random_runs.run("WAVE file", compare)

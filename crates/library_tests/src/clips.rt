@@ -28,40 +28,42 @@ fn samples(alloc: Global, clip: &Clip) -> Result<Vec<i32>, AllocError> {
 /// A format, the `data` chunk after it, and the samples.
 type Case<'a> = (&'a [u8], &'a [u8], &'a [i32]);
 
+/// Sounds of each size of container.
+const SOUNDS: &[Case] = &[
+    // The least, -1 and the greatest number of a container, and 0.
+    (
+        PCM_8,
+        b"data\x04\0\0\0\0\x7f\xff\x80",
+        &[-8_388_608, -65_536, 8_323_072, 0],
+    ),
+    (
+        PCM_16,
+        b"data\x08\0\0\0\0\x80\xff\xff\xff\x7f\0\0",
+        &[-8_388_608, -256, 8_388_352, 0],
+    ),
+    // Two frames of two channels: (1, -1) and (-8388608, 8388607).
+    (
+        PCM_24,
+        b"data\x0c\0\0\0\x01\0\0\xff\xff\xff\0\0\x80\xff\xff\x7f",
+        &[1, -1, -8_388_608, 8_388_607],
+    ),
+    // -257 and 255 are rounded down too.
+    (
+        PCM_32,
+        b"data\x14\0\0\0\0\0\0\x80\xff\xff\xff\xff\xff\xff\xff\x7f\xff\xfe\xff\xff\xff\0\0\0",
+        &[-8_388_608, -1, 8_388_607, -2, 0],
+    ),
+    // 12 bits stand in the high bits of their container, and its low ones are not masked.
+    (
+        PCM_12,
+        b"data\x04\0\0\0\xf0\x7f\xff\x7f",
+        &[8_384_512, 8_388_352],
+    ),
+];
+
 #[test]
 fn decodes_containers_of_each_size(rt: HostRuntime) -> Result<(), Fail> {
-    let cases: &[Case] = &[
-        // The least, -1 and the greatest number of a container, and 0.
-        (
-            PCM_8,
-            b"data\x04\0\0\0\0\x7f\xff\x80",
-            &[-8_388_608, -65_536, 8_323_072, 0],
-        ),
-        (
-            PCM_16,
-            b"data\x08\0\0\0\0\x80\xff\xff\xff\x7f\0\0",
-            &[-8_388_608, -256, 8_388_352, 0],
-        ),
-        // Two frames of two channels: (1, -1) and (-8388608, 8388607).
-        (
-            PCM_24,
-            b"data\x0c\0\0\0\x01\0\0\xff\xff\xff\0\0\x80\xff\xff\x7f",
-            &[1, -1, -8_388_608, 8_388_607],
-        ),
-        // -257 and 255 are rounded down too.
-        (
-            PCM_32,
-            b"data\x14\0\0\0\0\0\0\x80\xff\xff\xff\xff\xff\xff\xff\x7f\xff\xfe\xff\xff\xff\0\0\0",
-            &[-8_388_608, -1, 8_388_607, -2, 0],
-        ),
-        // 12 bits stand in the high bits of their container, and its low ones are not masked.
-        (
-            PCM_12,
-            b"data\x04\0\0\0\xf0\x7f\xff\x7f",
-            &[8_384_512, 8_388_352],
-        ),
-    ];
-    for (format, sound, want) in cases {
+    for (format, sound, want) in SOUNDS {
         let bytes = file(rt.alloc(), RIFF, &[format, sound])?;
         let clip = Clip::new(rt.alloc(), bytes.clone()?);
         assert!(rt; clip.is_ok(), "at {sound:?}");

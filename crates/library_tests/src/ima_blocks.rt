@@ -45,71 +45,73 @@ fn decode(rt: &impl Abort, block: &[u8], ch: u8, out: &mut [i16; ROOM]) -> Resul
     block_into(block, ch, out)
 }
 
+/// Blocks by their names, their channels and their bytes, and their frames.
+const BLOCKS: &[(&str, u8, &[u8], &[i16])] = &[
+    ("three bytes", 1, &[0, 0, 0], &[]),
+    ("a header alone", 1, &[0x39, 0x30, 88, 255], &[12345]),
+    (
+        "both limits",
+        1,
+        &LIMITS,
+        &[
+            32000, 32767, 32767, -28669, -32768, -28673, -24949, -28334, -25257,
+        ],
+    ),
+    (
+        "stereo, all codes 0",
+        2,
+        &[100, 0, 0, 0, 0x9c, 0xff, 0, 0, 0, 0, 0, 0, 0, 0, 0, 0],
+        &[
+            100, -100, 100, -100, 100, -100, 100, -100, 100, -100, 100, -100, 100, -100, 100, -100,
+            100, -100,
+        ],
+    ),
+    (
+        "stereo, a group that is not whole",
+        2,
+        &[5, 0, 0, 0, 6, 0, 0, 0, 0, 0, 0, 0, 0],
+        &[5, 6],
+    ),
+    (
+        // Channel 0: codes 0 and 7 at step 7 give 0 and 0 + 7 + 3 + 1 = 11, and the index 8,
+        // from where each 0 adds an eighth of 16, 14, 13, 12, 11, 10. Channel 1: code 15 at
+        // step 19 gives 1000 - (2 + 19 + 9 + 4), and the index 18, from where each 0 adds an
+        // eighth of 41, 37, 34, 31, 28, 25, 23.
+        "stereo, by hand",
+        2,
+        &[0, 0, 0, 0, 0xe8, 0x03, 10, 0, 0x70, 0, 0, 0, 0x0f, 0, 0, 0],
+        &[
+            0, 1000, 0, 966, 11, 971, 13, 975, 14, 979, 15, 982, 16, 985, 17, 988, 18, 990,
+        ],
+    ),
+    (
+        // Each channel has one code 7 or 15 at step 7, which moves it by 11, at a place of its
+        // own: code 0, code 1 and code 2. Each 0 after it adds an eighth of 16, 14, 13, ..
+        "three channels, by hand",
+        3,
+        &[
+            10, 0, 0, 0, 20, 0, 0, 0, 30, 0, 0, 0, 0x07, 0, 0, 0, 0x70, 0, 0, 0, 0, 0x0f, 0, 0,
+        ],
+        &[
+            10, 20, 30, 21, 20, 30, 23, 31, 30, 24, 33, 19, 25, 34, 21, 26, 35, 22, 27, 36, 23, 28,
+            37, 24, 29, 38, 25,
+        ],
+    ),
+    ("eight channels, by hand", 8, &EIGHT, &EIGHT_FRAMES),
+];
+
 #[test]
 fn a_block_gives_its_frames_and_leaves_the_rest(rt: HostRuntime) {
-    let cases: [(&str, u8, &[u8], &[i16]); 8] = [
-        ("three bytes", 1, &[0, 0, 0], &[]),
-        ("a header alone", 1, &[0x39, 0x30, 88, 255], &[12345]),
-        (
-            "both limits",
-            1,
-            &LIMITS,
-            &[
-                32000, 32767, 32767, -28669, -32768, -28673, -24949, -28334, -25257,
-            ],
-        ),
-        (
-            "stereo, all codes 0",
-            2,
-            &[100, 0, 0, 0, 0x9c, 0xff, 0, 0, 0, 0, 0, 0, 0, 0, 0, 0],
-            &[
-                100, -100, 100, -100, 100, -100, 100, -100, 100, -100, 100, -100, 100, -100, 100,
-                -100, 100, -100,
-            ],
-        ),
-        (
-            "stereo, a group that is not whole",
-            2,
-            &[5, 0, 0, 0, 6, 0, 0, 0, 0, 0, 0, 0, 0],
-            &[5, 6],
-        ),
-        (
-            // Channel 0: codes 0 and 7 at step 7 give 0 and 0 + 7 + 3 + 1 = 11, and the index 8,
-            // from where each 0 adds an eighth of 16, 14, 13, 12, 11, 10. Channel 1: code 15 at
-            // step 19 gives 1000 - (2 + 19 + 9 + 4), and the index 18, from where each 0 adds an
-            // eighth of 41, 37, 34, 31, 28, 25, 23.
-            "stereo, by hand",
-            2,
-            &[0, 0, 0, 0, 0xe8, 0x03, 10, 0, 0x70, 0, 0, 0, 0x0f, 0, 0, 0],
-            &[
-                0, 1000, 0, 966, 11, 971, 13, 975, 14, 979, 15, 982, 16, 985, 17, 988, 18, 990,
-            ],
-        ),
-        (
-            // Each channel has one code 7 or 15 at step 7, which moves it by 11, at a place of its
-            // own: code 0, code 1 and code 2. Each 0 after it adds an eighth of 16, 14, 13, ..
-            "three channels, by hand",
-            3,
-            &[
-                10, 0, 0, 0, 20, 0, 0, 0, 30, 0, 0, 0, 0x07, 0, 0, 0, 0x70, 0, 0, 0, 0, 0x0f, 0, 0,
-            ],
-            &[
-                10, 20, 30, 21, 20, 30, 23, 31, 30, 24, 33, 19, 25, 34, 21, 26, 35, 22, 27, 36, 23,
-                28, 37, 24, 29, 38, 25,
-            ],
-        ),
-        ("eight channels, by hand", 8, &EIGHT, &EIGHT_FRAMES),
-    ];
-    for (name, ch, block, samples) in cases {
+    for (name, ch, block, samples) in BLOCKS {
         let mut out = [UNTOUCHED; ROOM];
-        let frames = decode(&rt, block, ch, &mut out);
+        let frames = decode(&rt, block, *ch, &mut out);
         assert_eq!(rt;
             frames,
-            Ok(samples.len() / usize::from(ch.max(1))),
+            Ok(samples.len() / usize::from((*ch).max(1))),
             "{name}"
         );
         assert!(rt; samples.len() <= ROOM, "{name}");
-        assert_eq!(rt; &out[..samples.len()], samples, "{name}");
+        assert_eq!(rt; &out[..samples.len()], *samples, "{name}");
         assert!(rt;
             out[samples.len()..].iter().all(|s| *s == UNTOUCHED),
             "{name}"

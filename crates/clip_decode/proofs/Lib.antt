@@ -1,4 +1,3 @@
-pub mod Containers
 pub mod ContainerRuns
 pub mod FrameContainers
 pub mod FrameLists

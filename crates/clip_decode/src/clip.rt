@@ -1,16 +1,16 @@
-ghost use Rattle.std.specs.Prelude.{◌≡◌, ◌<◌, ◌↔◌, IfOk};
-ghost use Rattle.clip_decode.specs.Pcm.{pcm_sample};
+ghost use Rattle.std.specs.Prelude.{◌≡◌, ◌↔◌, IfOk};
 ghost use Rattle.wave_read.specs.Wave.{wave};
 ghost use Rattle.wave_read.specs.Laws.{IsWaveOf};
 ghost use Rattle.wave_read.specs.declared.wave_fault.WaveFault.{WaveFault};
-ghost use Rattle.mix_fixed.specs.Sound.{Is24};
 
 use crate::clip_error::ClipError;
-use crate::pcm::{container, value};
 use std::alloc::{AllocError, Global};
 use std::marker::Model;
 use std::sync::Arc;
-use wave_read::{Kind, Wave, survey};
+use wave_read::{Wave, survey};
+
+/// The most bytes of a sound file of a scene, 64 MiB. A clip may have more.
+pub const MAX_SOUND_BYTES: u64 = 67_108_864;
 
 /// The bytes of a WAVE file, with what they say of their sound. Clones share the bytes.
 ///
@@ -66,25 +66,6 @@ impl Clip {
         ensures { result.now ≡ self.now.bytes }
     {
         self.bytes.as_slice()
-    }
-
-    /// The sample of a channel in a frame, both counted from 0, of a file of linear PCM, as a number
-    /// of 24 bits, -8388608 to 8388607.
-    ///
-    /// Frames stand one after the other, each of one container a channel, and a container of 1 byte
-    /// is unsigned, a longer one signed and little-endian (Microsoft's RIFF WAVE description). A
-    /// byte b gives `(b - 128) * 65536`, a number v of 2 bytes `v * 256`, of 3 bytes v, and of 4
-    /// bytes `v / 256`, rounded down. Low bits that the file doesn't use are not masked. No memory is
-    /// taken, and the headers are not read again.
-    #[tactic(auto, unfolding(crate::specs::Pcm::pcm_sample))]
-    pub fn pcm_sample(&self, frame: u64, channel: u8) -> i32
-        requires kind { self.now.wave.kind ≡ Kind.Pcm }
-        requires frame { frame < self.now.wave.frames }
-        requires channel { channel < self.now.wave.channels }
-        ensures exact { result ≡ pcm_sample self.now.bytes self.now.wave frame channel }
-        ensures range { Is24 result }
-    {
-        value(container(self.bytes.as_slice(), &self.wave, frame, channel))
     }
 }
 

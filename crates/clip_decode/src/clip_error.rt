@@ -1,4 +1,6 @@
 use std::alloc::AllocFailed;
+use std::error::Error;
+use std::fmt;
 use wave_read::WaveFault;
 
 /// Why a file makes no clip.
@@ -9,6 +11,23 @@ pub enum ClipError {
     /// There was no memory.
     OutOfMemory,
 }
+
+/// The text of the file's fault, or `out of memory`.
+impl fmt::Display for ClipError {
+    ghost use Rattle.std.specs.Prelude.{Some};
+    ghost use Rattle.clip_decode.specs.ErrorText.{error_text};
+
+    ghost output = { λ error. Some (error_text error) };
+
+    fn fmt<W: fmt::Write>(&self, f: &mut fmt::Formatter<W>) -> fmt::Result {
+        match self {
+            ClipError::Fault(fault) => write!(f, "{fault}"),
+            ClipError::OutOfMemory => f.write_str("out of memory"),
+        }
+    }
+}
+
+impl Error for ClipError {}
 
 impl From<WaveFault> for ClipError {
     ghost use Rattle.std.specs.Prelude.{◌≡◌};

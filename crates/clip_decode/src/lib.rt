@@ -25,7 +25,7 @@ mod page;
 mod pcm;
 mod widened;
 
-pub use clip::Clip;
+pub use clip::{Clip, MAX_SOUND_BYTES};
 pub use clip_error::ClipError;
 pub use cursor::Cursor;
 pub use decoding::fill;

@@ -1,29 +1,11 @@
 //! Samples of linear PCM.
 
-ghost use Rattle.std.specs.Prelude.{◌≡◌, ◌<◌, ◌≤◌, ◌*◌, length};
+ghost use Rattle.std.specs.Prelude.{◌≡◌, ◌≤◌, ◌*◌, length};
 ghost use Rattle.clip_decode.specs.Cells.{ContainersDecoded};
-ghost use Rattle.clip_decode.specs.Containers.{container_of};
 ghost use Rattle.clip_decode.specs.Pcm.{pcm_value};
-ghost use Rattle.wave_read.specs.Laws.{IsWaveIn};
 ghost use Rattle.mix_fixed.specs.Sound.{Is24};
 
 use byteorder::{ByteOrder, LittleEndian};
-use wave_read::{Kind, Wave};
-
-/// The container of a sample: its 1 to 4 bytes.
-pub fn container<'a>(bytes: &'a [u8], wave: &Wave, frame: u64, channel: u8) -> &'a [u8]
-    requires lies { IsWaveIn bytes.now wave.now }
-    requires kind { wave.now.kind ≡ Kind.Pcm }
-    requires frame { frame < wave.now.frames }
-    requires channel { channel < wave.now.channels }
-    ensures value { result.now ≡ container_of bytes.now wave.now frame channel }
-    ensures least { 1 ≤ length result.now }
-    ensures most { length result.now ≤ 4 }
-{
-    let size = u64::from(wave.width / 8);
-    let from = wave.data_from + frame * u64::from(wave.align) + u64::from(channel) * size;
-    &bytes[from as usize..(from + size) as usize]
-}
 
 /// The sample in a container of one byte, as a number of 24 bits.
 #[tactic(auto, unfolding(crate::specs::Pcm::pcm_value))]
@@ -63,21 +45,6 @@ fn sample_32(container: &[u8]) -> i32
     ensures range { Is24 result }
 {
     LittleEndian::read_i32(container) >> 8
-}
-
-/// The sample in a container, as a number of 24 bits.
-pub fn value(container: &[u8]) -> i32
-    requires least { 1 ≤ length container.now }
-    requires most { length container.now ≤ 4 }
-    ensures exact { result ≡ pcm_value container.now }
-    ensures range { Is24 result }
-{
-    match container.len() {
-        1 => sample_8(container),
-        2 => sample_16(container),
-        3 => sample_24(container),
-        _ => sample_32(container),
-    }
 }
 
 // One loop for each size, so that the size is a constant in it.

@@ -1,7 +1,7 @@
 -- Lemmas on lists and options on which several crates stand.
 use Rattle.std.specs.Prelude.{◌≡◌, ℕ, zero, suc, ◌+◌, ◌∷◌, ◌++◌, map, Option, None, Some, IfSome, refl}
 use Rattle.std.specs.List.{range_with_len}
-use Rattle.std.proofs.Common.{ap, arith}
+use Rattle.std.proofs.Common.{ap, subst, arith}
 
 -- the values at m numbers, and then at the n numbers behind them
 pub map_range-join : {A : Type 0} (f : ℕ → A) (a m n : ℕ) → map f (range_with_len a (m + n)) ≡ map f (range_with_len a m) ++ map f (range_with_len (a + m) n)
@@ -18,3 +18,7 @@ map_range-join f a (suc m) n =
 pub IfSome-map : {A : Type 0} {P Q : A → Type 0} (o : Option A) → ((x : A) → P x → Q x) → IfSome o P → IfSome o Q
 IfSome-map None f h = tt
 IfSome-map (Some x) f h = f x h
+
+-- what holds of the value of an option holds of the value that it is
+pub IfSome-at : {A : Type 0} (P : A → Type 0) (o : Option A) (x : A) → o ≡ Some x → IfSome o P → P x
+IfSome-at P o x is holds = subst (λ v. IfSome v P) is holds

@@ -3,3 +3,4 @@ pub mod FileLemmas
 pub mod PrefixLemmas
 pub mod FaultLemmas
 pub mod RunLemmas
+pub mod WholeFiles

@@ -1,10 +1,14 @@
 -- What each answer of a store of files or of a sink says.
-use Rattle.std.specs.Prelude.{◌≡◌, ℕ, ◌<◌, ◌≤◌, ◌⊎◌, List, [], ◌++◌, length, Option, Some, None, IsSomeAnd, Bool, true, false}
+use Rattle.std.specs.Prelude.{◌≡◌, ℕ, ◌<◌, ◌≤◌, ◌⊎◌, List, [], ◌++◌, length, Option, Some, None, IsSomeAnd, Bool, true, false, Result, Ok, Err}
 use Rattle.std.specs.Option.{option_map}
 use Rattle.snd_io.specs.declared.answers.Fetch.{Fetch}
 use Rattle.snd_io.specs.declared.answers.Fetch.TheVariants.{Fetched, Absent, TooLong, Failed as FetchFailed, OutOfMemory as FetchOutOfMemory}
 use Rattle.snd_io.specs.declared.answers.Put.{Put}
 use Rattle.snd_io.specs.declared.answers.Put.TheVariants.{Done, Failed, OutOfMemory}
+use Rattle.snd_io.specs.declared.answers.FetchFault.{FetchFault}
+use Rattle.snd_io.specs.declared.answers.FetchFault.TheVariants as fetch_fault
+use Rattle.snd_io.specs.declared.answers.PutFault.{PutFault}
+use Rattle.snd_io.specs.declared.answers.PutFault.TheVariants as put_fault
 use Rattle.snd_io.specs.Files.{Told, put_file, extend_file}
 
 abbrev pub fetch_failed : Fetch → Bool
@@ -18,6 +22,25 @@ abbrev pub put_failed : Put → Bool
 put_failed Done = false
 put_failed Failed = true
 put_failed OutOfMemory = false
+
+-- the answer that a result stands for
+abbrev pub fetch_fault_of : FetchFault → Fetch
+fetch_fault_of fetch_fault.Absent = Absent
+fetch_fault_of fetch_fault.TooLong = TooLong
+fetch_fault_of fetch_fault.Failed = FetchFailed
+fetch_fault_of fetch_fault.OutOfMemory = FetchOutOfMemory
+
+abbrev pub fetch_of : {A : Type 0} → Result A FetchFault → Fetch
+fetch_of (Ok x) = Fetched
+fetch_of (Err fault) = fetch_fault_of fault
+
+abbrev pub put_fault_of : PutFault → Put
+put_fault_of put_fault.Failed = Failed
+put_fault_of put_fault.OutOfMemory = OutOfMemory
+
+abbrev pub put_of : {A : Type 0} → Result A PutFault → Put
+put_of (Ok x) = Done
+put_of (Err fault) = put_fault_of fault
 
 -- the second list begins with the first
 abbrev pub IsPrefix : List ℕ → List ℕ → Type 0

@@ -1,6 +1,7 @@
 pub mod Answers
 pub mod Faults
 pub mod Fakes
+pub mod FaultTexts
 pub mod Files
 pub mod MemFiles
 pub mod MemText

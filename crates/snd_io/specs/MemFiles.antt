@@ -1,5 +1,5 @@
 -- What a store in memory that fails at listed calls holds, and how it counts.
-use Rattle.std.specs.Prelude.{◌≡◌, ℕ, List, Option, Some, None, IsSomeAnd, IfSome, take}
+use Rattle.std.specs.Prelude.{◌≡◌, ◌≢◌, ℕ, Bool, List, [], Option, Some, None, IsSomeAnd, IfSome, take}
 use Rattle.snd_io.specs.declared.snag.Snag.{Snag}
 use Rattle.snd_io.specs.declared.mem_depot.MemDepot.{MemDepot}
 use Rattle.snd_io.specs.declared.answers.Put.{Put}
@@ -29,21 +29,19 @@ mem_appends depot = depot.snags.appends
 abbrev pub mem_faults : MemDepot → ℕ
 mem_faults depot = depot.snags.faults
 
--- the counts are those after one more call, which is no append. A fault is counted exactly where the call is listed
-pub record CountsCall (before after : MemDepot) : Type 0 where
+-- the counts are those after one more call, which is no append. A fault is counted exactly where the call failed
+pub record CountsCall (failed : Bool) (before after : MemDepot) : Type 0 where
   pub snags : mem_snags after ≡ mem_snags before
   pub calls : mem_calls after ≡ next_number (mem_calls before)
   pub appends : mem_appends after ≡ mem_appends before
-  pub faults : mem_faults after ≡ faults_after (mem_faults before) (bytes_taken (mem_snags before) (next_number (mem_calls before)) None)
+  pub faults : mem_faults after ≡ faults_after (mem_faults before) failed
 
--- the counts are those after one more append. A fault is counted exactly where it is listed
-pub record CountsAppend (before after : MemDepot) : Type 0 where
+-- the counts are those after one more append. A fault is counted exactly where it failed
+pub record CountsAppend (failed : Bool) (before after : MemDepot) : Type 0 where
   pub snags : mem_snags after ≡ mem_snags before
   pub calls : mem_calls after ≡ next_number (mem_calls before)
   pub appends : mem_appends after ≡ next_number (mem_appends before)
-  pub faults :
-      mem_faults after ≡ faults_after (mem_faults before)
-      (bytes_taken (mem_snags before) (next_number (mem_calls before)) (Some (next_number (mem_appends before))))
+  pub faults : mem_faults after ≡ faults_after (mem_faults before) failed
 
 -- the counts are as they were
 pub record CountsNothing (before after : MemDepot) : Type 0 where
@@ -51,13 +49,13 @@ pub record CountsNothing (before after : MemDepot) : Type 0 where
   pub appends : mem_appends after ≡ mem_appends before
   pub faults : mem_faults after ≡ mem_faults before
 
--- an append whose number is listed doesn't succeed: it fails with as many bytes as were listed, or finds no memory.
--- One that isn't listed doesn't fail
+-- An append whose number is listed doesn't succeed: it fails with as many bytes as were listed. Where these are any, it may
+-- find no memory instead. One that isn't listed doesn't fail.
 abbrev pub AppendsAsTaken : Put → Option ℕ → List ℕ → MemDepot → MemDepot → Type 0
 AppendsAsTaken Done taken bytes before after = taken ≡ None
 AppendsAsTaken Failed taken bytes before after =
     IsSomeAnd taken (λ count. IfSome (mem_writing before) (λ name. mem_files after ≡ extend_file name (take count bytes) (mem_files before)))
-AppendsAsTaken OutOfMemory taken bytes before after = Unit {0}
+AppendsAsTaken OutOfMemory taken bytes before after = IfSome taken (λ count. take count bytes ≢ [])
 
 abbrev pub AppendsAsListed : Put → List ℕ → MemDepot → MemDepot → Type 0
 AppendsAsListed answer bytes before after =

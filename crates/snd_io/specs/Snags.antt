@@ -1,6 +1,6 @@
 -- The calls at which a fake fails. Calls count from 1, the appends among themselves too.
 use Rattle.std.specs.Prelude.{ℕ, ◌+◌, ◌-◌, ◌^◌, ◌==◌, List, Option, Some, None, Bool, false, min, if◌then◌else◌, find}
-use Rattle.std.specs.Option.{option_map, is_some}
+use Rattle.std.specs.Option.{option_map}
 use Rattle.snd_io.specs.declared.snag.Snag.{Snag}
 
 -- the number of the call after the n-th; it stays at the last number of a u64
@@ -19,6 +19,6 @@ names_call number append snag = if snag.appends_only then names_append snag.call
 abbrev pub bytes_taken : List Snag → ℕ → Option ℕ → Option ℕ
 bytes_taken snags number append = option_map (λ snag. snag.taken) (find (names_call number append) snags)
 
--- the count of faults after a call: one more where a snag names the call, and else as before
-abbrev pub faults_after : ℕ → Option ℕ → ℕ
-faults_after before taken = if is_some taken then next_number before else before
+-- the count of faults after a call: one more where it failed, and else as before
+abbrev pub faults_after : ℕ → Bool → ℕ
+faults_after before failed = if failed then next_number before else before

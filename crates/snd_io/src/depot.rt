@@ -16,7 +16,7 @@ pub trait Depot {
     ghost writing: { Self → Option (List ℕ) };
 
     /// A count of faults, which never falls. A call answers `Failed` only where it rises, or stands
-    /// at the last number of a u64.
+    /// at the last number of a u64, and every other answer leaves it as it was.
     ghost faults: { Self → ℕ };
 
     /// Puts the bytes of a file into an empty buffer, at most `limit` of them. On every answer but

@@ -95,10 +95,13 @@ impl Depot for MemDepot {
         ensures closed { mem_writing self.new ≡ None }
         ensures cause { CountsFaults (mem_faults self.old) (mem_faults self.new) (fetch_failed result) }
         ensures listed { fetch_failed result ≡ is_some (bytes_taken (mem_snags self.old) (next_number (mem_calls self.old)) None) }
-        ensures counts { CountsCall self.old self.new }
+        ensures counts { CountsCall (fetch_failed result) self.old self.new }
     {
         match self.snags.next_call() {
-            Some(_) => Fetch::Failed,
+            Some(_) => {
+                self.snags.count_fault();
+                Fetch::Failed
+            }
             None => self.store.fetch(alloc, name, limit, into),
         }
     }
@@ -109,10 +112,13 @@ impl Depot for MemDepot {
         ensures cause { CountsFaults (mem_faults self.old) (mem_faults self.new) (put_failed result) }
         ensures listed { put_failed result ≡ is_some (bytes_taken (mem_snags self.old) (next_number (mem_calls self.old)) None) }
         ensures as_before { put_failed result ≡ true → mem_files self.new ≡ mem_files self.old }
-        ensures counts { CountsCall self.old self.new }
+        ensures counts { CountsCall (put_failed result) self.old self.new }
     {
         match self.snags.next_call() {
-            Some(_) => Put::Failed,
+            Some(_) => {
+                self.snags.count_fault();
+                Put::Failed
+            }
             None => self.store.create(alloc, name),
         }
     }
@@ -122,18 +128,17 @@ impl Depot for MemDepot {
         ensures after { IfSome (mem_writing self.old) (λ name. Appends result name bytes.now (Some (mem_files self.old)) (Some (mem_files self.new)) (mem_writing self.new)) }
         ensures cause { CountsFaults (mem_faults self.old) (mem_faults self.new) (put_failed result) }
         ensures listed { AppendsAsListed result bytes.now self.old self.new }
-        ensures counts { CountsAppend self.old self.new }
+        ensures counts { CountsAppend (put_failed result) self.old self.new }
     {
         match self.snags.next_append() {
             None => self.store.append(alloc, bytes),
-            Some(taken) => match self.store.append(alloc, first_bytes(bytes, taken)) {
-                Put::Done => {
-                    self.store.finish();
-                    Put::Failed
+            Some(taken) => {
+                let answer = self.store.append_last(alloc, first_bytes(bytes, taken));
+                if answer == Put::Failed {
+                    self.snags.count_fault();
                 }
-                Put::OutOfMemory => Put::OutOfMemory,
-                Put::Failed => unreachable!(),
-            },
+                answer
+            }
         }
     }
 
@@ -144,11 +149,14 @@ impl Depot for MemDepot {
         ensures closed { mem_writing self.new ≡ None }
         ensures cause { CountsFaults (mem_faults self.old) (mem_faults self.new) (put_failed result) }
         ensures listed { put_failed result ≡ is_some (bytes_taken (mem_snags self.old) (next_number (mem_calls self.old)) None) }
-        ensures counts { CountsCall self.old self.new }
+        ensures counts { CountsCall (put_failed result) self.old self.new }
     {
         let answer = self.store.finish();
         match self.snags.next_call() {
-            Some(_) => Put::Failed,
+            Some(_) => {
+                self.snags.count_fault();
+                Put::Failed
+            }
             None => answer,
         }
     }

@@ -59,6 +59,26 @@ impl MemSink {
     }
 }
 
+impl MemSink {
+    ghost use Rattle.snd_io.specs.MemText.{mem_text, mem_sink_snags, mem_sink_calls, mem_sink_faults, WritesLast};
+
+    /// Takes the bytes of a write that fails once it took these. It finds no memory only where there
+    /// are bytes to be taken.
+    fn write_last(&mut self, bytes: &[u8]) -> Put
+        ensures last { WritesLast result bytes.now (mem_text self.old) (mem_text self.new) }
+        ensures snags { mem_sink_snags self.new ≡ mem_sink_snags self.old }
+        ensures calls { mem_sink_calls self.new ≡ mem_sink_calls self.old }
+        ensures faults { mem_sink_faults self.new ≡ faults_after (mem_sink_faults self.old) (put_failed result) }
+        ensures cause { CountsFaults (mem_sink_faults self.old) (mem_sink_faults self.new) (put_failed result) }
+    {
+        if !bytes.is_empty() && self.text.extend_from_slice(bytes).is_err() {
+            return Put::OutOfMemory;
+        }
+        self.snags.count_fault();
+        Put::Failed
+    }
+}
+
 impl Sink for MemSink {
     ghost use Rattle.std.specs.Prelude.{Some};
     ghost use Rattle.snd_io.specs.MemText.{mem_text, mem_sink_snags, mem_sink_calls, mem_sink_faults, WritesAsListed};
@@ -73,17 +93,14 @@ impl Sink for MemSink {
         ensures listed { WritesAsListed result bytes.now self.old self.new }
         ensures snags { mem_sink_snags self.new ≡ mem_sink_snags self.old }
         ensures calls { mem_sink_calls self.new ≡ next_number (mem_sink_calls self.old) }
-        ensures faults { mem_sink_faults self.new ≡ faults_after (mem_sink_faults self.old) (bytes_taken (mem_sink_snags self.old) (next_number (mem_sink_calls self.old)) None) }
+        ensures faults { mem_sink_faults self.new ≡ faults_after (mem_sink_faults self.old) (put_failed result) }
     {
         match self.snags.next_call() {
             None => match self.text.extend_from_slice(bytes) {
                 Ok(()) => Put::Done,
                 Err(_) => Put::OutOfMemory,
             },
-            Some(taken) => match self.text.extend_from_slice(first_bytes(bytes, taken)) {
-                Ok(()) => Put::Failed,
-                Err(_) => Put::OutOfMemory,
-            },
+            Some(taken) => self.write_last(first_bytes(bytes, taken)),
         }
     }
 }

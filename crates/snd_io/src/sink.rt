@@ -11,7 +11,7 @@ pub trait Sink {
     ghost written: { Self → Option (List ℕ) };
 
     /// A count of faults, which never falls. A call answers `Failed` only where it rises, or stands
-    /// at the last number of a u64.
+    /// at the last number of a u64, and every other answer leaves it as it was.
     ghost faults: { Self → ℕ };
 
     /// Writes the bytes, or on every answer but `Done` a prefix of them.

@@ -1,7 +1,7 @@
-ghost use Rattle.std.specs.Prelude.{◌≡◌, ◌∷◌, ◌++◌, [], Some, None, is_some, is_ok, if◌then◌else◌, take};
+ghost use Rattle.std.specs.Prelude.{◌≡◌, ◌∷◌, ◌++◌, [], Some, None, true, is_ok, if◌then◌else◌, take};
 ghost use Rattle.snd_io.specs.Faults.{CountsFaults};
 ghost use Rattle.snd_io.specs.Answers.{IsPrefix};
-ghost use Rattle.snd_io.specs.Snags.{next_number, names_call, bytes_taken, faults_after};
+ghost use Rattle.snd_io.specs.Snags.{next_number, names_call, bytes_taken};
 
 use plain_data::OutOfMemory;
 use std::alloc::Global;
@@ -50,18 +50,16 @@ impl Snags {
         Ok(())
     }
 
-    /// Counts a call that is no append. Where a snag names it, counts a fault and answers how many
-    /// bytes it takes.
+    /// Counts a call that is no append. Where a snag names it, answers how many bytes it takes.
     pub(crate) fn next_call(&mut self) -> Option<u32>
         ensures taken { result ≡ bytes_taken self.old.list.items (next_number self.old.calls) None }
         ensures list { self.new.list ≡ self.old.list }
         ensures calls { self.new.calls ≡ next_number self.old.calls }
         ensures appends { self.new.appends ≡ self.old.appends }
-        ensures faults { self.new.faults ≡ faults_after self.old.faults result }
-        ensures cause { CountsFaults self.old.faults self.new.faults (is_some result) }
+        ensures faults { self.new.faults ≡ self.old.faults }
     {
         self.calls = self.calls.saturating_add(1);
-        self.meet(None)
+        find_snag(&self.list, self.calls, None)
     }
 
     /// The same for an append, which counts among the appends too.
@@ -70,28 +68,19 @@ impl Snags {
         ensures list { self.new.list ≡ self.old.list }
         ensures calls { self.new.calls ≡ next_number self.old.calls }
         ensures appends { self.new.appends ≡ next_number self.old.appends }
-        ensures faults { self.new.faults ≡ faults_after self.old.faults result }
-        ensures cause { CountsFaults self.old.faults self.new.faults (is_some result) }
+        ensures faults { self.new.faults ≡ self.old.faults }
     {
         self.calls = self.calls.saturating_add(1);
         self.appends = self.appends.saturating_add(1);
-        self.meet(Some(self.appends))
+        find_snag(&self.list, self.calls, Some(self.appends))
     }
 
-    /// Meets the call that was counted last, and counts a fault where a snag names it.
-    fn meet(&mut self, append: Option<u64>) -> Option<u32>
-        ensures taken { result ≡ bytes_taken self.old.list.items self.old.calls append }
-        ensures list { self.new.list ≡ self.old.list }
-        ensures calls { self.new.calls ≡ self.old.calls }
-        ensures appends { self.new.appends ≡ self.old.appends }
-        ensures faults { self.new.faults ≡ faults_after self.old.faults result }
-        ensures cause { CountsFaults self.old.faults self.new.faults (is_some result) }
+    /// Counts a fault.
+    pub(crate) fn count_fault(&mut self)
+        ensures faults { self.new ≡ record self.old { faults = next_number self.old.faults } }
+        ensures cause { CountsFaults self.old.faults self.new.faults true }
     {
-        let taken = find_snag(&self.list, self.calls, append);
-        if taken.is_some() {
-            self.faults = self.faults.saturating_add(1);
-        }
-        taken
+        self.faults = self.faults.saturating_add(1);
     }
 }
 

@@ -1,6 +1,7 @@
-ghost use Rattle.std.specs.Prelude.{◌≡◌, OnOk, OnErr, Some, None, IfOk};
+ghost use Rattle.std.specs.Prelude.{◌≡◌, OnOk, OnErr, Some, None, IfOk, IsSome, IfSome};
 ghost use Rattle.std.specs.Option.{option_copied, option_map};
 ghost use Rattle.std.specs.FinMap.{get, empty};
+ghost use Rattle.snd_io.specs.Answers.{Appends};
 ghost use Rattle.snd_io.specs.Files.{put_file};
 ghost use Rattle.snd_io.specs.Fakes.{files_of, first_name};
 
@@ -18,7 +19,7 @@ pub struct SureDepot {
 }
 
 impl SureDepot {
-    ghost use Rattle.snd_io.specs.SureFiles.{sure_files, sure_writing};
+    ghost use Rattle.snd_io.specs.SureFiles.{sure_files, sure_writing, AppendsLast};
 
     /// A store without files.
     pub fn new(alloc: Global) -> Result<SureDepot, OutOfMemory>
@@ -52,6 +53,22 @@ impl SureDepot {
         ensures { option_copied result ≡ get (sure_files self.now) name.now }
     {
         find_bytes(&self.entries, name)
+    }
+
+    /// Appends the bytes and ends the file, as an append that fails once it took these. It finds no
+    /// memory only where there are bytes to be taken.
+    pub(crate) fn append_last(&mut self, alloc: Global, bytes: &[u8]) -> Put
+        requires { IsSome (sure_writing self.old) }
+        ensures after { IfSome (sure_writing self.old) (λ name. Appends result name bytes.now (Some (sure_files self.old)) (Some (sure_files self.new)) (sure_writing self.new)) }
+        ensures last { IfSome (sure_writing self.old) (λ name. AppendsLast result name bytes.now (sure_files self.old) (sure_files self.new)) }
+    {
+        match self.append(alloc, bytes) {
+            Put::OutOfMemory if !bytes.is_empty() => Put::OutOfMemory,
+            _ => {
+                self.is_open = false;
+                Put::Failed
+            }
+        }
     }
 }
 

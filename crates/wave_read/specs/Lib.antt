@@ -1,8 +1,9 @@
-pub mod Numbers
 pub mod Chunks
+pub mod FaultText
 pub mod Format
 pub mod Frames
-pub mod StepIndices
-pub mod Wave
 pub mod Laws
+pub mod Numbers
+pub mod StepIndices
 pub mod Walk
+pub mod Wave

@@ -1,3 +1,6 @@
+use std::error::Error;
+use std::fmt;
+
 /// Why a file is refused. Where several hold, the first is answered, in the order of `survey`.
 #[derive(Clone, Copy, Debug, PartialEq, Eq)]
 pub enum WaveFault {
@@ -31,3 +34,35 @@ pub enum WaveFault {
     /// There is no `data` chunk.
     NoData,
 }
+
+/// The fault's name and then its fields in order, each after a space.
+impl fmt::Display for WaveFault {
+    ghost use Rattle.std.specs.Prelude.{Some};
+    ghost use Rattle.wave_read.specs.FaultText.{fault_text};
+
+    ghost output = { λ fault. Some (fault_text fault) };
+
+    fn fmt<W: fmt::Write>(&self, f: &mut fmt::Formatter<W>) -> fmt::Result {
+        match *self {
+            WaveFault::NotRiff => f.write_str("NotRiff"),
+            WaveFault::NotWave => f.write_str("NotWave"),
+            WaveFault::Ds64Missing => f.write_str("Ds64Missing"),
+            WaveFault::ChunkPastEnd { at } => write!(f, "ChunkPastEnd {at}"),
+            WaveFault::NoFmt => f.write_str("NoFmt"),
+            WaveFault::FmtShort { len } => write!(f, "FmtShort {len}"),
+            WaveFault::Unsupported { tag } => write!(f, "Unsupported {tag}"),
+            WaveFault::Channels { n } => write!(f, "Channels {n}"),
+            WaveFault::Rate { n } => write!(f, "Rate {n}"),
+            WaveFault::Width { bits, align } => write!(f, "Width {bits} {align}"),
+            WaveFault::ImaAlign { align } => write!(f, "ImaAlign {align}"),
+            WaveFault::StepIndex {
+                block,
+                channel,
+                found,
+            } => write!(f, "StepIndex {block} {channel} {found}"),
+            WaveFault::NoData => f.write_str("NoData"),
+        }
+    }
+}
+
+impl Error for WaveFault {}

@@ -1,4 +1,5 @@
 pub mod AllEdits
+pub mod BusNumbers
 pub mod Kept
 pub mod Marking
 pub mod NoCycle
@@ -9,3 +10,4 @@ pub mod Runs
 pub mod Seeks
 pub mod Sorting
 pub mod Steps
+pub mod TimesInRange

@@ -3,7 +3,7 @@ use Rattle.std.proofs.Common.{◌≡◌, ℕ, zero, suc, ◌+◌, ◌<◌, ◌�
 use Rattle.std.specs.Prelude.{All, fold, if◌then◌else◌, nat_le, nat_lt, slice_get}
 use Rattle.std.specs.List.{range_with_len, list_all}
 use Rattle.std.specs.Option.{option_map_or}
-use Rattle.std.proofs.lemmas.Bool.{false≢true, and_parts, leb-true, ltb-true, ltb-false}
+use Rattle.std.proofs.lemmas.Bool.{false≢true, true≢false, and_parts, leb-true, ltb-true, ltb-false}
 use Rattle.std.proofs.lemmas.List.{take_all, drop_all, append-nil, length-map}
 use Rattle.std.proofs.lemmas.List.Elements.{All-map, All-weaker, All-append, All-nil, All-cons, All-head, All-tail}
 use Rattle.std.proofs.lemmas.List.Sums.{AllPass-from_list_all}
@@ -12,19 +12,22 @@ use Rattle.scene_model.specs.declared.node.Node.{Node}
 use Rattle.scene_model.specs.declared.node_state.NodeState.{NodeState}
 use Rattle.scene_model.specs.declared.edit.Edit.{Edit}
 use Rattle.scene_model.specs.declared.edit.Edit.TheVariants.{Attach, Detach, SetGain, Start, Stop, From, Until, Seek, Loop}
-use Rattle.scene_model.specs.declared.reply.Reply.TheVariants.{Done, NoSuchBus, GainTooLarge}
-use Rattle.scene_model.specs.Buses.{outputs}
-use Rattle.scene_model.specs.IsPlan.{IsBusOf, IsPlan, HasSeekInRange, names_nodes, may_seek, seeks_at, outputs_in_order}
+use Rattle.scene_model.specs.declared.reply.Reply.TheVariants.{Done, NoSuchBus, GainTooLarge, NotSound}
+use Rattle.scene_model.specs.declared.node.NodeKind.{NodeKind}
+use Rattle.scene_model.specs.declared.node.NodeKind.TheVariants.{Sound, Group, Splitter}
+use Rattle.scene_model.specs.Buses.{outputs, bus_count}
+use Rattle.scene_model.specs.IsPlan.{IsBusOf, IsPlan, IsNodeState, names_nodes, may_seek, seeks_at, outputs_in_order}
 use Rattle.scene_model.specs.Limits as limits
 use Rattle.scene_model.specs.declared.bus_row.BusRow.{BusRow}
 use Rattle.scene_model.specs.IsScene.{is_bus_row}
-use Rattle.scene_model.specs.Opening.{unattached, outputs_of, all_outputs, unwired, state_of, attach_edits, after_row}
+use Rattle.scene_model.specs.Opening.{unattached, outputs_of, all_outputs, unwired, is_looped, state_of, attach_edits, after_row}
 use Rattle.scene_model.specs.PlanData.{PlanData}
-use Rattle.scene_model.specs.Plans.{reply, made, is_done, has_output, change_at, with_node, after, with_seek}
+use Rattle.scene_model.specs.Plans.{reply, sound_reply, is_sound, is_sound_kind, made, is_done, has_output, change_at, with_node, after, with_seek}
 use Rattle.scene_model.specs.Reach.{HasNoCycle}
 use Rattle.scene_model.specs.Wiring.{is_output, bus_with_target, with_target, bus_with_gain, with_gain}
 use Rattle.scene_model.proofs.Kept.{outputs_with_target, outputs_with_gain, kinds_changed, outputs_unwired}
 use Rattle.scene_model.proofs.NoCycle.{no_cycle_made, no_cycle_unattached}
+use Rattle.scene_model.proofs.BusNumbers.{length_all_outputs}
 
 -- each element of a list under a map has what the map gives each
 All_mapped : {X : Type 0} (P : X → Type 0) (f : X → X) → ((x : X) → P x → P (f x)) → (xs : List X) → All P xs → All P (map f xs)
@@ -62,7 +65,8 @@ length-change_at change (x ∷ xs) (suc n) = ap suc (length-change_at change xs 
 
 IsPlan-bus_with_target : (p : PlanData) (node out : ℕ) (to : Option ℕ) → ((m : ℕ) → to ≡ Some m → m ≤ length p.nodes) → HasNoCycle (with_target node out to p.buses) → IsPlan p → IsPlan (record p { buses = with_target node out to p.buses })
 IsPlan-bus_with_target p node out to within none w = record {
-  seeks_are = w.seeks_are;
+  states_are = w.states_are;
+  buses_most = rw (length-map p.buses (bus_with_target node out to)) w.buses_most;
   outputs_are = outputs_with_target node out to p.buses ∙ w.outputs_are;
   nodes_most = w.nodes_most;
   buses_are = All_mapped (IsBusOf (length p.nodes)) (bus_with_target node out to) (λ b. bus_with_target_within (length p.nodes) (is_output node out b) to b within) p.buses w.buses_are;
@@ -72,7 +76,8 @@ IsPlan-bus_with_target p node out to within none w = record {
 
 IsPlan-bus_with_gain : (p : PlanData) (node out gain : ℕ) → gain ≤ limits.most_gain → HasNoCycle (with_gain node out gain p.buses) → IsPlan p → IsPlan (record p { buses = with_gain node out gain p.buses })
 IsPlan-bus_with_gain p node out gain fits none w = record {
-  seeks_are = w.seeks_are;
+  states_are = w.states_are;
+  buses_most = rw (length-map p.buses (bus_with_gain node out gain)) w.buses_most;
   outputs_are = outputs_with_gain node out gain p.buses ∙ w.outputs_are;
   nodes_most = w.nodes_most;
   buses_are = All_mapped (IsBusOf (length p.nodes)) (bus_with_gain node out gain) (λ b. bus_with_gain_within (length p.nodes) (is_output node out b) gain b) p.buses w.buses_are;
@@ -81,29 +86,64 @@ IsPlan-bus_with_gain p node out gain fits none w = record {
 }
 
 -- a change of one element, which has the fact after the change where it had it before
-All_changed : {X : Type 0} (P : X → Type 0) (change : X → X) (xs : List X) (n : ℕ) → ((x : X) → slice_get xs n ≡ Some x → P x → P (change x)) → All P xs → All P (change_at change xs n)
+pub All_changed : {X : Type 0} (P : X → Type 0) (change : X → X) (xs : List X) (n : ℕ) → ((x : X) → slice_get xs n ≡ Some x → P x → P (change x)) → All P xs → All P (change_at change xs n)
 All_changed P change [] n step all = all
 All_changed P change (x ∷ xs) zero step all =
     All-cons P (change x) xs (step x refl (All-head P x xs all)) (All-tail P x xs all)
 All_changed P change (x ∷ xs) (suc n) step all =
     All-cons P x (change_at change xs n) (All-head P x xs all) (All_changed P change xs n step (All-tail P x xs all))
 
-IsPlan-with_node : (p : PlanData) (n : ℕ) (change : NodeState → NodeState) → ((x : NodeState) → (change x).kind ≡ x.kind) → ((x : NodeState) → slice_get p.nodes n ≡ Some x → HasSeekInRange x → HasSeekInRange (change x)) → IsPlan p → IsPlan (with_node p n change)
-IsPlan-with_node p n change same seeks w = record {
-  seeks_are = All_changed HasSeekInRange change p.nodes n seeks w.seeks_are;
+IsPlan-with_node : (p : PlanData) (n : ℕ) (change : NodeState → NodeState) → ((x : NodeState) → (change x).kind ≡ x.kind) → ((x : NodeState) → slice_get p.nodes n ≡ Some x → IsNodeState x → IsNodeState (change x)) → IsPlan p → IsPlan (with_node p n change)
+IsPlan-with_node p n change same step w = record {
+  states_are = All_changed IsNodeState change p.nodes n step w.states_are;
   outputs_are = w.outputs_are ∙ ap (outputs_in_order 0) (sym (kinds_changed p.nodes n change same));
   nodes_most = rw length-change_at w.nodes_most;
+  buses_most = w.buses_most;
   buses_are = subst (λ (k : ℕ). All (IsBusOf k) p.buses) (sym (length-change_at change p.nodes n)) w.buses_are;
   gains_most = w.gains_most;
   no_cycle = w.no_cycle;
 }
 
-with_seek_once_more : (nodes : List NodeState) (node place : ℕ) → may_seek nodes (Seek node place) ≡ true → (x : NodeState) → slice_get nodes node ≡ Some x → HasSeekInRange (with_seek place x)
-with_seek_once_more nodes node place h x e =
+-- a change of the switch and of the times
+with_times : (x : NodeState) (started : Bool) (from until : ℕ) → IsNodeState x → IsNodeState (record x { started = started; from = from; until = until })
+with_times x started from until w = record {
+  seeks_most = w.seeks_most;
+  place_most = w.place_most;
+  place_unsought = w.place_unsought;
+  seeks_of_sound = w.seeks_of_sound;
+  looped_of_sound = w.looped_of_sound;
+}
+
+-- an edit of a sound is done only at a sound
+sound_from_done : (nodes : List NodeState) (node : ℕ) → is_done (sound_reply nodes node) ≡ true → (x : NodeState) → slice_get nodes node ≡ Some x → is_sound_kind x.kind ≡ true
+sound_from_done nodes node d x e =
+    subst (λ (o : Option NodeState). option_map_or (λ (n : NodeState). is_sound_kind n.kind) o false ≡ true) e (by_test (is_sound nodes node) d)
+  where
+    by_test : (t : Bool) → is_done (if t then Done else NotSound) ≡ true → t ≡ true
+    by_test true d = refl
+    by_test false d = absurd (false≢true d)
+
+with_loop : (x : NodeState) (on : Bool) → is_sound_kind x.kind ≡ true → IsNodeState x → IsNodeState (record x { looped = on })
+with_loop x on sound w = record {
+  seeks_most = w.seeks_most;
+  place_most = w.place_most;
+  place_unsought = w.place_unsought;
+  seeks_of_sound = w.seeks_of_sound;
+  looped_of_sound = λ silent. absurd (true≢false (sym sound ∙ silent));
+}
+
+with_seek_once_more : (nodes : List NodeState) (node place : ℕ) → may_seek nodes (Seek node place) ≡ true → (x : NodeState) → slice_get nodes node ≡ Some x → is_sound_kind x.kind ≡ true → IsNodeState (with_seek place x)
+with_seek_once_more nodes node place h x e sound =
     let both = and_parts (nat_le place limits.last_place) (nat_lt (seeks_at nodes node) limits.most_seeks) h in
     let few : nat_lt x.seeks limits.most_seeks ≡ true = subst (λ (o : Option NodeState). nat_lt (option_map_or (λ (n : NodeState). n.seeks) o 0) limits.most_seeks ≡ true) e both.1 in
     let below = ltb-true x.seeks limits.most_seeks few in
-    record { seeks_most = omega arith; place_most = leb-true place limits.last_place both.0 }
+    record {
+      seeks_most = omega arith;
+      place_most = leb-true place limits.last_place both.0;
+      place_unsought = λ none. absurd (omega arith);
+      seeks_of_sound = λ silent. absurd (true≢false (sym sound ∙ silent));
+      looped_of_sound = λ silent. absurd (true≢false (sym sound ∙ silent));
+    }
 
 pub IsPlan-made : (p : PlanData) (e : Edit) → IsPlan p → names_nodes (length p.nodes) e ≡ true → may_seek p.nodes e ≡ true → is_done (reply p e) ≡ true → IsPlan (made p e)
 IsPlan-made p (Attach node out to) w named may d =
@@ -113,13 +153,13 @@ IsPlan-made p (Detach node out) w named may d =
     IsPlan-bus_with_target p node out None (λ m e. cc) (no_cycle_made p (Detach node out) d w.no_cycle) w
 IsPlan-made p (SetGain node out gain) w named may d =
     IsPlan-bus_with_gain p node out gain (gain_from_done (has_output p.nodes node out) gain d) (no_cycle_made p (SetGain node out gain) d w.no_cycle) w
-IsPlan-made p (Start node) w named may d = IsPlan-with_node p node _ (λ x. refl) (λ x e h. record { seeks_most = h.seeks_most; place_most = h.place_most }) w
-IsPlan-made p (Stop node) w named may d = IsPlan-with_node p node _ (λ x. refl) (λ x e h. record { seeks_most = h.seeks_most; place_most = h.place_most }) w
-IsPlan-made p (From node value) w named may d = IsPlan-with_node p node _ (λ x. refl) (λ x e h. record { seeks_most = h.seeks_most; place_most = h.place_most }) w
-IsPlan-made p (Until node value) w named may d = IsPlan-with_node p node _ (λ x. refl) (λ x e h. record { seeks_most = h.seeks_most; place_most = h.place_most }) w
+IsPlan-made p (Start node) w named may d = IsPlan-with_node p node _ (λ x. refl) (λ x e h. with_times x true x.from x.until h) w
+IsPlan-made p (Stop node) w named may d = IsPlan-with_node p node _ (λ x. refl) (λ x e h. with_times x false x.from x.until h) w
+IsPlan-made p (From node value) w named may d = IsPlan-with_node p node _ (λ x. refl) (λ x e h. with_times x x.started value x.until h) w
+IsPlan-made p (Until node value) w named may d = IsPlan-with_node p node _ (λ x. refl) (λ x e h. with_times x x.started x.from value h) w
 IsPlan-made p (Seek node place) w named may d =
-    IsPlan-with_node p node (with_seek place) (λ x. refl) (λ x e h. with_seek_once_more p.nodes node place may x e) w
-IsPlan-made p (Loop node on) w named may d = IsPlan-with_node p node _ (λ x. refl) (λ x e h. record { seeks_most = h.seeks_most; place_most = h.place_most }) w
+    IsPlan-with_node p node (with_seek place) (λ x. refl) (λ x e h. with_seek_once_more p.nodes node place may x e (sound_from_done p.nodes node d x e)) w
+IsPlan-made p (Loop node on) w named may d = IsPlan-with_node p node _ (λ x. refl) (λ x e h. with_loop x on (sound_from_done p.nodes node d x e) h) w
 
 -- outputs as they are made: of these nodes, unattached, at the unit gain
 record IsFresh (first end : ℕ) (b : Bus) : Type 0 where
@@ -146,15 +186,31 @@ pub no_cycle_unwired : (nodes : List Node) → HasNoCycle (unwired nodes).buses
 no_cycle_unwired nodes =
     no_cycle_unattached (all_outputs 0 nodes) (All-weaker (IsFresh 0 (length nodes)) (λ (b : Bus). b.to ≡ None) (λ b w. w.nowhere) (all_outputs 0 nodes) (fresh_outputs 0 nodes (length nodes) (omega arith)))
 
-pub IsPlan-unwired : (nodes : List Node) → length nodes ≤ limits.most_nodes → IsPlan (unwired nodes)
-IsPlan-unwired nodes most =
+-- only a sound is looped at the start
+unlooped : (kind : NodeKind) → is_sound_kind kind ≡ false → is_looped kind ≡ false
+unlooped (Sound resource looped) e = absurd (true≢false e)
+unlooped Group e = refl
+unlooped (Splitter n) e = refl
+
+state_at_start : (n : Node) → IsNodeState (state_of n)
+state_at_start n = record {
+  seeks_most = omega arith;
+  place_most = omega arith;
+  place_unsought = λ none. refl;
+  seeks_of_sound = λ silent. refl;
+  looped_of_sound = unlooped n.kind;
+}
+
+pub IsPlan-unwired : (nodes : List Node) → length nodes ≤ limits.most_nodes → bus_count nodes ≤ limits.most_buses → IsPlan (unwired nodes)
+IsPlan-unwired nodes most outputs_most =
     let fresh = fresh_outputs 0 nodes (length nodes) (omega arith) in
     let buses = all_outputs 0 nodes in
     let same : length (map state_of nodes) ≡ length nodes = length-map nodes state_of in
     record {
       nodes_most = rw same most;
       outputs_are = outputs_unwired 0 nodes;
-      seeks_are = All-map HasSeekInRange state_of nodes (All_any (λ n. HasSeekInRange (state_of n)) (λ n. record { seeks_most = omega arith; place_most = omega arith }) nodes);
+      buses_most = rw (length_all_outputs 0 nodes) outputs_most;
+      states_are = All-map IsNodeState state_of nodes (All_any (λ n. IsNodeState (state_of n)) state_at_start nodes);
       buses_are = subst (λ (k : ℕ). All (IsBusOf k) buses) (sym same)
           (All-weaker (IsFresh 0 (length nodes)) (IsBusOf (length nodes)) (λ b w. record { node_is = w.below_end; to_is = λ m e. cc (w.nowhere, e) }) buses fresh);
       gains_most = All-weaker (IsFresh 0 (length nodes)) (λ (b : Bus). b.gain ≤ limits.most_gain) (λ b w. let u = w.unit in omega arith) buses fresh;

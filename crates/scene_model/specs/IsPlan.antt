@@ -1,5 +1,5 @@
 -- What is true of every plan, and the conditions of an edit.
-use Rattle.std.specs.Prelude.{◌≡◌, ◌≤◌, ◌<◌, ℕ, suc, Bool, true, IsTrue, ◌&&◌, nat_le, nat_lt, List, [], ◌∷◌, ◌++◌, length, map, Some, All, slice_get}
+use Rattle.std.specs.Prelude.{◌≡◌, ◌≤◌, ◌<◌, ℕ, suc, Bool, true, false, IsTrue, ◌&&◌, nat_le, nat_lt, List, [], ◌∷◌, ◌++◌, length, map, Some, All, slice_get}
 use Rattle.std.specs.List.{range_with_len}
 use Rattle.std.specs.Option.{option_map_or}
 use Rattle.scene_model.specs.declared.node.NodeKind.{NodeKind}
@@ -11,6 +11,7 @@ use Rattle.scene_model.specs.declared.edit.Edit.TheVariants.{Attach, Detach, Set
 use Rattle.scene_model.specs.IsScene.{is_edit}
 use Rattle.scene_model.specs.Limits as limits
 use Rattle.scene_model.specs.PlanData.{PlanData}
+use Rattle.scene_model.specs.Plans.{is_sound_kind}
 use Rattle.scene_model.specs.Reach.{HasNoCycle}
 
 -- a bus of one of these many nodes, attached to one of them, to the endpoint, which has the next number, or to none
@@ -18,10 +19,23 @@ pub record IsBusOf (nodes : ℕ) (b : Bus) : Type 0 where
   pub node_is : b.node < nodes
   pub to_is : (to : ℕ) → b.to ≡ Some to → to ≤ nodes
 
--- the number of seeks and the place are in their ranges
-pub record HasSeekInRange (n : NodeState) : Type 0 where
+-- The number of seeks and the place are in their ranges. A node that had no seek is at place 0, and one that isn't a sound
+-- had none and isn't looped.
+pub record IsNodeState (n : NodeState) : Type 0 where
   pub seeks_most : n.seeks ≤ limits.most_seeks
   pub place_most : n.place ≤ limits.last_place
+  pub place_unsought : n.seeks ≡ 0 → n.place ≡ 0
+  pub seeks_of_sound : is_sound_kind n.kind ≡ false → n.seeks ≡ 0
+  pub looped_of_sound : is_sound_kind n.kind ≡ false → n.looped ≡ false
+
+-- the times of a node are frames that a row may name
+pub record HasTimesInRange (n : NodeState) : Type 0 where
+  pub from_most : n.from ≤ limits.most_frames
+  pub until_most : n.until ≤ limits.most_frames
+
+-- and so it is with each node of a plan
+abbrev pub AreTimesInRange : PlanData → Type 0
+AreTimesInRange p = All HasTimesInRange p.nodes
 
 -- a bus by its node and the number of the output there
 abbrev pub output_of : Bus → ℕ × ℕ
@@ -38,7 +52,8 @@ kinds nodes = map (λ (n : NodeState). n.kind) nodes
 
 pub record IsPlan (p : PlanData) : Type 0 where
   pub nodes_most : length p.nodes ≤ limits.most_nodes
-  pub seeks_are : All HasSeekInRange p.nodes
+  pub buses_most : length p.buses ≤ limits.most_buses
+  pub states_are : All IsNodeState p.nodes
   pub outputs_are : map output_of p.buses ≡ outputs_in_order 0 (kinds p.nodes)
   pub buses_are : All (IsBusOf (length p.nodes)) p.buses
   pub gains_most : All (λ (b : Bus). b.gain ≤ limits.most_gain) p.buses

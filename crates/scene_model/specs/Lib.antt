@@ -9,6 +9,7 @@ pub mod Order
 pub mod PlanData
 pub mod Plans
 pub mod Reach
+pub mod ReplyText
 pub mod SceneData
 pub mod Times
 pub mod Wiring

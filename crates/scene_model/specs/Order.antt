@@ -1,5 +1,5 @@
--- The edits of a script in the order in which a scene makes them.
-use Rattle.std.specs.Prelude.{ℕ, suc, nat_lt, List, [], ◌∷◌, fold, if◌then◌else◌}
+-- The edits of a script in the order in which a scene makes them, and those of one editor.
+use Rattle.std.specs.Prelude.{ℕ, suc, ◌==◌, nat_lt, List, [], ◌∷◌, filter, fold, if◌then◌else◌}
 use Rattle.scene_model.specs.declared.edit.EditRow.{EditRow}
 use Rattle.scene_model.specs.declared.order.NumberedEdit.{NumberedEdit}
 
@@ -16,3 +16,7 @@ put (x ∷ placed) e = if nat_lt e.row.at x.row.at then e ∷ x ∷ placed else 
 -- the rows in the order of their frames, and those of one frame in the order of their numbers
 abbrev pub in_order : List EditRow → List NumberedEdit
 in_order rows = fold put [] (numbered 0 rows)
+
+-- the rows of one editor with their numbers, in the order of rows: its edits from the first on
+abbrev pub edits_of : ℕ → List EditRow → List NumberedEdit
+edits_of editor rows = filter (λ (e : NumberedEdit). e.row.editor == editor) (numbered 0 rows)

@@ -1,3 +1,5 @@
+//! What an edit changes in the nodes and buses of a plan.
+
 ghost use Rattle.std.specs.Prelude.{◌≡◌, ◌<◌, length, IsTrue};
 ghost use Rattle.scene_model.specs.IsPlan.{names_nodes, may_seek};
 ghost use Rattle.scene_model.specs.Limits as limits;

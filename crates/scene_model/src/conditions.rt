@@ -1,3 +1,5 @@
+//! Whether an edit may be applied at all.
+
 ghost use Rattle.std.specs.Prelude.{◌≡◌, ◌&&◌, length};
 ghost use Rattle.scene_model.specs.IsPlan as spec;
 

@@ -1,14 +1,21 @@
-ghost use Rattle.std.specs.Prelude.{◌≡◌, ◌<◌, ◌==◌, ℕ, Bool, IsTrue, filter, fold, length, map, nat_le, nat_lt};
+//! Laws of scenes and plans. The functions do nothing.
+
+ghost use Rattle.std.specs.Prelude.{◌≡◌, ◌<◌, ◌==◌, ℕ, Bool, List, Some, IsTrue, filter, fold, length, map, nat_le, nat_lt, slice_get};
 ghost use Rattle.std.specs.List.{list_all};
 ghost use Rattle.std.specs.List.Sorted.{IsNonDecreasingBy};
+ghost use Rattle.scene_model.specs.declared.edit.Edit.{Edit};
 ghost use Rattle.scene_model.specs.declared.edit.EditRow.{EditRow};
 ghost use Rattle.scene_model.specs.declared.order.NumberedEdit.{NumberedEdit};
-ghost use Rattle.scene_model.specs.IsPlan.{TakesEdits, kinds, output_of};
+ghost use Rattle.scene_model.specs.Buses.{bus_number, has_bus};
+ghost use Rattle.scene_model.specs.IsPlan.{AreTimesInRange, TakesEdits, kinds, output_of};
+ghost use Rattle.scene_model.specs.IsScene.{IsScene, is_edit};
 ghost use Rattle.scene_model.specs.Limits as limits;
 ghost use Rattle.scene_model.specs.Opening.{opening};
 ghost use Rattle.scene_model.specs.Order.{in_order, numbered};
+ghost use Rattle.scene_model.specs.PlanData.{PlanData};
 ghost use Rattle.scene_model.specs.Plans.{after};
 ghost use Rattle.scene_model.specs.Reach.{HasNoCycle};
+ghost use Rattle.scene_model.specs.SceneData.{SceneData};
 ghost use Rattle.scene_model.specs.Times.{edits_at, plan};
 
 use crate::edit::{Edit, EditRow};
@@ -26,6 +33,26 @@ pub fn no_plan_has_a_cycle(scene: &Scene, edits: &[Edit])
 pub fn edits_keep_kinds_and_outputs(plan: &Plan, edit: &Edit)
     ensures kinds { kinds (after plan.now edit.now).nodes ≡ kinds plan.now.nodes }
     ensures outputs { map output_of (after plan.now edit.now).buses ≡ map output_of plan.now.buses }
+{}
+
+/// A law: in the plan with which a scene begins, after any edits, and at each frame, the bus of a
+/// number is the output that has that number.
+pub fn buses_have_their_numbers(scene: &Scene, edits: &[Edit])
+    ensures after_edits { (node out : ℕ) → IsTrue (has_bus scene.now.nodes node out) →
+        slice_get (map output_of (fold after (opening scene.now) edits.now).buses) (bus_number scene.now.nodes node out) ≡ Some (node, out) }
+    ensures at_frame { (t node out : ℕ) → IsTrue (has_bus scene.now.nodes node out) →
+        slice_get (map output_of (plan scene.now t).buses) (bus_number scene.now.nodes node out) ≡ Some (node, out) }
+{}
+
+/// A law: in the plan with which a scene begins each node's times are frames that a row may name, 0
+/// to 16777216. So they are after each edit that a scene may have, in whatever order these are made,
+/// and at each frame.
+pub fn times_stay_in_range()
+    ensures after_edit { (nodes : ℕ) (p : PlanData) (e : Edit) → IsTrue (is_edit nodes e) → AreTimesInRange p →
+        AreTimesInRange (after p e) }
+    ensures after_edits { (s : SceneData) (edits : List Edit) → IsScene s → IsTrue (list_all (is_edit (length s.nodes)) edits) →
+        AreTimesInRange (fold after (opening s) edits) }
+    ensures at_frame { (s : SceneData) (t : ℕ) → IsScene s → AreTimesInRange (plan s t) }
 {}
 
 /// A law: after fewer than 131071 edits from the plan with which a scene begins, each edit that a

@@ -20,6 +20,7 @@ mod bus;
 mod bus_row;
 mod changes;
 mod conditions;
+mod copies;
 mod edit;
 mod laws;
 mod limits;
@@ -39,12 +40,14 @@ pub use bus::Bus;
 pub use bus_row::BusRow;
 pub use edit::{Edit, EditRow};
 pub use laws::{
-    a_plan_takes_the_edits_of_a_scene, edits_are_ordered_by_frames, edits_keep_kinds_and_outputs,
-    no_plan_has_a_cycle, plan_is_all_edits_so_far,
+    a_plan_takes_the_edits_of_a_scene, buses_have_their_numbers, edits_are_ordered_by_frames,
+    edits_keep_kinds_and_outputs, no_plan_has_a_cycle, plan_is_all_edits_so_far,
+    times_stay_in_range,
 };
 pub use limits::{
-    MAX_FILE_NAME_BYTES, MAX_GAIN, MAX_LENGTH, MAX_NAME_BYTES, MAX_PLACE, MAX_RATE, MAX_SEEKS,
-    UNITY_GAIN,
+    LAST_EDITOR, MAX_BUS_ROWS, MAX_BUSES, MAX_EDITS, MAX_FILE_NAME_BYTES, MAX_GAIN, MAX_LENGTH,
+    MAX_NAME_BYTES, MAX_NODES, MAX_PLACE, MAX_RATE, MAX_RESOURCES, MAX_SEEKS, MAX_SPLITTER_OUTPUTS,
+    MIN_SPLITTER_OUTPUTS, UNITY_GAIN,
 };
 pub use name::{is_file_name, is_name};
 pub use node::{Node, NodeKind};

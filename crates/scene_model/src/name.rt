@@ -1,3 +1,5 @@
+//! The form of names.
+
 ghost use Rattle.std.specs.Prelude.{◌≡◌};
 ghost use Rattle.scene_model.specs.Names as spec;
 

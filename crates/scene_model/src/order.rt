@@ -1,3 +1,6 @@
+//! The edits of a script with their numbers: all of them in the order in which the scene makes them,
+//! and those of one editor.
+
 ghost use Rattle.std.specs.Prelude.{◌≡◌, ◌≤◌, length, IfOk};
 ghost use Rattle.scene_model.specs.Limits as limits;
 ghost use Rattle.scene_model.specs.Order as spec;
@@ -31,5 +34,24 @@ pub fn edits_in_order(alloc: Global, rows: &[EditRow]) -> Result<Rows<NumberedEd
         edits.push(NumberedEdit { number, row: *row })?;
     }
     edits.sort_by_key(|edit| edit.row.at)?;
+    Ok(Rows::new(edits))
+}
+
+/// The rows of one editor with their numbers, in the order of rows.
+pub(crate) fn edits_of(
+    alloc: Global,
+    rows: &[EditRow],
+    editor: u8,
+) -> Result<Rows<NumberedEdit>, OutOfMemory>
+    requires { length rows.now ≤ limits.most_edits }
+    ensures { IfOk result (λ edits. edits ≡ spec.edits_of editor rows.now) }
+{
+    let mut edits = Vec::new(alloc);
+    for (number, row) in rows.iter().enumerate() {
+        if row.editor == editor {
+            let number = number as u32;
+            edits.push(NumberedEdit { number, row: *row })?;
+        }
+    }
     Ok(Rows::new(edits))
 }

@@ -1,4 +1,7 @@
+//! The output buses of nodes, as they are before any of them is wired.
+
 ghost use Rattle.std.specs.Prelude.{◌≡◌, ◌≤◌, ◌<◌, ◌++◌, length, IfOk};
+ghost use Rattle.scene_model.specs.Limits as limits;
 ghost use Rattle.scene_model.specs.Opening as spec;
 
 use crate::bus::Bus;
@@ -9,7 +12,7 @@ use std::alloc::Global;
 
 /// The output buses of these nodes, node by node, attached nowhere and at gain 1.0.
 pub(crate) fn unattached_outputs(alloc: Global, nodes: &[Node]) -> Result<Vec<Bus>, OutOfMemory>
-    requires { length nodes.now ≤ 128 }
+    requires { length nodes.now ≤ limits.most_nodes }
     ensures { IfOk result (λ buses. buses.items ≡ spec.all_outputs 0 nodes.now) }
 {
     let mut buses = Vec::new(alloc);

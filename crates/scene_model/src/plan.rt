@@ -1,6 +1,8 @@
 ghost use Rattle.std.specs.Prelude.{◌≡◌, ◌≢◌, ◌≤◌, ◌↔◌, ℕ, length, IsTrue, IfOk, fold};
+ghost use Rattle.scene_model.specs.Buses.{bus_count};
 ghost use Rattle.scene_model.specs.IsPlan.{IsPlan, can_apply};
 ghost use Rattle.scene_model.specs.IsScene.{is_bus_row};
+ghost use Rattle.scene_model.specs.Limits as limits;
 ghost use Rattle.scene_model.specs.Opening as spec;
 ghost use Rattle.scene_model.specs.Plans.{reply, after};
 ghost use Rattle.scene_model.specs.Reach as reach;
@@ -30,6 +32,7 @@ pub struct Plan {
 }
 
 impl Model for Plan {
+    ghost use Rattle.scene_model.specs.Buses.{bus_count};
     ghost use Rattle.scene_model.specs.IsPlan.{IsPlan};
     ghost use Rattle.scene_model.specs.PlanData.{PlanData};
 
@@ -97,14 +100,15 @@ impl Plan {
         reaches(self.buses.as_slice(), from, to)
     }
 
-    /// A plan of nodes alone, at most 128: each node as its row has it, with no seek counted, and every
-    /// output bus unattached at gain 1.0.
+    /// A plan of nodes alone, at most 128 with at most 256 outputs in all: each node as its row has
+    /// it, with no seek counted, and every output bus unattached at gain 1.0.
     ///
     /// # Errors
     ///
     /// [`OutOfMemory`] where there is no memory; nothing has changed then.
     pub fn unwired(alloc: Global, nodes: &[Node]) -> Result<Plan, OutOfMemory>
-        requires { length nodes.now ≤ 128 }
+        requires nodes { length nodes.now ≤ limits.most_nodes }
+        requires outputs { bus_count nodes.now ≤ limits.most_buses }
         ensures { IfOk result (λ p. p ≡ spec.unwired nodes.now) }
     {
         let buses = unattached_outputs(alloc, nodes)?;

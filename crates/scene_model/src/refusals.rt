@@ -1,5 +1,8 @@
+//! What an edit is answered.
+
 ghost use Rattle.std.specs.Prelude.{◌≡◌, ◌≤◌, length, IsTrue, All};
 ghost use Rattle.scene_model.specs.IsPlan.{IsBusOf, names_nodes};
+ghost use Rattle.scene_model.specs.Limits as limits;
 ghost use Rattle.scene_model.specs.Plans as spec;
 ghost use Rattle.scene_model.specs.Wiring as wiring;
 
@@ -14,7 +17,7 @@ use crate::reply::Reply;
 /// What an edit is answered: the first refusal whose condition holds, or `Done`. The edit names
 /// nodes that are there.
 pub(crate) fn reply_to(nodes: &[NodeState], buses: &[Bus], edit: &Edit) -> Reply
-    requires nodes { length nodes.now ≤ 128 }
+    requires nodes { length nodes.now ≤ limits.most_nodes }
     requires buses { All (IsBusOf (length nodes.now)) buses.now }
     requires edit { IsTrue (names_nodes (length nodes.now) edit.now) }
     ensures { result ≡ spec.reply (record { nodes = nodes.now; buses = buses.now }) edit.now }
@@ -31,9 +34,9 @@ pub(crate) fn reply_to(nodes: &[NodeState], buses: &[Bus], edit: &Edit) -> Reply
 }
 
 fn reply_to_attach(nodes: &[NodeState], buses: &[Bus], node: u32, out: u8, to: u32) -> Reply
-    requires buses { All (IsBusOf 128) buses.now }
-    requires node { node ≤ 128 }
-    requires to { to ≤ 128 }
+    requires buses { All (IsBusOf limits.most_nodes) buses.now }
+    requires node { node ≤ limits.most_nodes }
+    requires to { to ≤ limits.most_nodes }
     ensures { result ≡ spec.reply (record { nodes = nodes.now; buses = buses.now }) (Edit.Attach node out to) }
 {
     if !has_output(nodes, node, out) {

@@ -1,6 +1,8 @@
 ghost use Rattle.std.specs.Prelude.{◌≡◌};
 ghost use Rattle.scene_model.specs.Plans as spec;
 
+use std::fmt;
+
 /// What came of an edit. On each reply but `Done` nothing changed.
 #[derive(Debug, Clone, Copy, PartialEq, Eq)]
 pub enum Reply {
@@ -28,5 +30,26 @@ impl Reply {
         ensures { result ≡ spec.is_done self.now }
     {
         matches!(self, Reply::Done)
+    }
+}
+
+/// The name and then the number, if there is one, in decimal after a space.
+impl fmt::Display for Reply {
+    ghost use Rattle.std.specs.Prelude.{Some};
+    ghost use Rattle.scene_model.specs.ReplyText.{reply_text};
+
+    ghost output = { λ reply. Some (reply_text reply) };
+
+    fn fmt<W: fmt::Write>(&self, f: &mut fmt::Formatter<W>) -> fmt::Result {
+        match self {
+            Reply::Done => f.write_str("Done"),
+            Reply::NoSuchBus => f.write_str("NoSuchBus"),
+            Reply::NoInput => f.write_str("NoInput"),
+            Reply::AlreadyAttached { to } => write!(f, "AlreadyAttached {to}"),
+            Reply::Cycle { node } => write!(f, "Cycle {node}"),
+            Reply::NotAttached => f.write_str("NotAttached"),
+            Reply::GainTooLarge => f.write_str("GainTooLarge"),
+            Reply::NotSound => f.write_str("NotSound"),
+        }
     }
 }

@@ -1,5 +1,6 @@
 ghost use Rattle.std.specs.Prelude.{◌≡◌, ◌≤◌, ◌++◌, map, IfOk, IsTrue, length};
 ghost use Rattle.std.specs.List.{list_all};
+ghost use Rattle.scene_model.specs.Buses.{bus_count};
 ghost use Rattle.scene_model.specs.IsPlan.{can_apply};
 ghost use Rattle.scene_model.specs.IsScene.{is_bus_row, is_edit, is_edit_row};
 ghost use Rattle.scene_model.specs.Opening.{row_edits, unwired};
@@ -50,6 +51,7 @@ pub(crate) fn check_edits(
     edits: &[EditRow],
 ) -> Result<(), ScriptError>
     requires nodes { length nodes.now ≤ 128 }
+    requires outputs { bus_count nodes.now ≤ 256 }
     requires buses { length buses.now ≤ 256 }
     requires edits { length edits.now ≤ 4096 }
     requires bus_rows { IsTrue (list_all (is_bus_row (length nodes.now)) buses.now) }
@@ -63,6 +65,7 @@ pub(crate) fn check_edits(
 /// Makes edits one after the other in a plan of the nodes alone, up to the first that isn't done.
 fn make_all(alloc: Global, nodes: &[Node], edits: &[PlacedEdit]) -> Result<(), ScriptError>
     requires nodes { length nodes.now ≤ 128 }
+    requires outputs { bus_count nodes.now ≤ 256 }
     requires few { length edits.now ≤ 4608 }
     requires are { IsTrue (list_all (λ e. is_edit (length nodes.now) e.edit) edits.now) }
     ensures { Gives result (spec.all_done (unwired nodes.now) edits.now) }

@@ -1,11 +1,12 @@
-use Rattle.std.proofs.Common.{arith, refl}
+use Rattle.std.proofs.Common.{◌+◌, arith, refl}
+use Rattle.scene_model.specs.Limits as limits
 use Rattle.scene_model.proofs.Marking.{first_start, first_reached, marks_are}
 use Rattle.scene_model.proofs.reach.reached.Goals as goal
 
 pub loop-init : goal.loop-init
 loop-init c = record {
-  start = first_start 129 c.args.from (omega arith);
-  reached = first_reached c.args.buses.now 129 c.args.from (omega arith);
+  start = first_start (limits.most_nodes + 1) c.args.from (omega arith);
+  reached = first_reached c.args.buses.now (limits.most_nodes + 1) c.args.from (omega arith);
 }
 
 pub returns : goal.returns

@@ -5,8 +5,11 @@ ghost use Rattle.mix_fixed.specs.Sound.{largest_gain};
 
 use std::marker::Model;
 
-/// The largest gain, 16.0.
-const LARGEST: u32 = 1_048_576;
+/// The gain that leaves a sample as it is, 1.0, in 1/65536.
+pub const UNITY_GAIN: u32 = 65_536;
+
+/// The largest gain, 16.0, in 1/65536.
+pub const MAX_GAIN: u32 = 1_048_576;
 
 /// A gain in 1/65536, from 0 (silence) over 65536 (unity) to 1048576 (16.0).
 #[derive(Clone, Copy, Debug, PartialEq, Eq)]
@@ -30,7 +33,7 @@ impl Gain {
         ensures none { IsNone result ↔ (largest_gain < g) }
         ensures some { IfSome result (λ gain. gain ≡ g) }
     {
-        if g > LARGEST {
+        if g > MAX_GAIN {
             None
         } else {
             Some(Gain { value: g })

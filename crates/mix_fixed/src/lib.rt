@@ -8,5 +8,5 @@
 mod gain;
 mod sample;
 
-pub use gain::Gain;
+pub use gain::{Gain, MAX_GAIN, UNITY_GAIN};
 pub use sample::{sat24, scale};

@@ -1,5 +1,6 @@
 -- The numbers of the scene's form, and no other.
 use Rattle.std.specs.Prelude.{ℕ}
+use Rattle.mix_fixed.specs.Sound as sound
 
 -- the one version of the form
 abbrev pub version : ℕ
@@ -59,8 +60,8 @@ most_seeks = 131071
 
 -- 16.0, in 1/65536
 abbrev pub most_gain : ℕ
-most_gain = 1048576
+most_gain = sound.largest_gain
 
 -- 1.0, in 1/65536
 abbrev pub unity_gain : ℕ
-unity_gain = 65536
+unity_gain = sound.unity_gain

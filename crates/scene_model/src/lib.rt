@@ -45,9 +45,9 @@ pub use laws::{
     times_stay_in_range,
 };
 pub use limits::{
-    LAST_EDITOR, MAX_BUS_ROWS, MAX_BUSES, MAX_EDITS, MAX_FILE_NAME_BYTES, MAX_GAIN, MAX_LENGTH,
+    LAST_EDITOR, MAX_BUS_ROWS, MAX_BUSES, MAX_EDITS, MAX_FILE_NAME_BYTES, MAX_LENGTH,
     MAX_NAME_BYTES, MAX_NODES, MAX_PLACE, MAX_RATE, MAX_RESOURCES, MAX_SEEKS, MAX_SPLITTER_OUTPUTS,
-    MIN_SPLITTER_OUTPUTS, UNITY_GAIN,
+    MIN_SPLITTER_OUTPUTS,
 };
 pub use name::{is_file_name, is_name};
 pub use node::{Node, NodeKind};
@@ -57,3 +57,5 @@ pub use plan::{Plan, apply};
 pub use reply::Reply;
 pub use resource::Resource;
 pub use scene::Scene;
+
+pub use mix_fixed::{MAX_GAIN, UNITY_GAIN};

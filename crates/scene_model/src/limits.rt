@@ -36,12 +36,6 @@ pub const MAX_NAME_BYTES: usize = 64;
 /// The most bytes of the name of a sound file.
 pub const MAX_FILE_NAME_BYTES: usize = 255;
 
-/// The gain that leaves a sample as it is, in 1/65536.
-pub const UNITY_GAIN: u32 = 65_536;
-
-/// The highest gain of a bus, 16.0, in 1/65536.
-pub const MAX_GAIN: u32 = 1_048_576;
-
 /// The last frame that a seek can name, at the scene's rate.
 pub const MAX_PLACE: u64 = 140_737_488_355_327;
 

@@ -5,8 +5,8 @@ ghost use Rattle.scene_model.specs.Limits as limits;
 ghost use Rattle.scene_model.specs.Opening as spec;
 
 use crate::bus::Bus;
-use crate::limits::UNITY_GAIN;
 use crate::node::Node;
+use mix_fixed::UNITY_GAIN;
 use plain_data::OutOfMemory;
 use std::alloc::Global;
 

@@ -8,11 +8,11 @@ ghost use Rattle.scene_model.specs.Wiring as wiring;
 
 use crate::bus::Bus;
 use crate::edit::Edit;
-use crate::limits::MAX_GAIN;
 use crate::node::NodeKind;
 use crate::node_state::NodeState;
 use crate::reach::reaches;
 use crate::reply::Reply;
+use mix_fixed::MAX_GAIN;
 
 /// What an edit is answered: the first refusal whose condition holds, or `Done`. The edit names
 /// nodes that are there.

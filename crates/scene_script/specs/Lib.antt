@@ -1,6 +1,7 @@
 pub mod BusRows
 pub mod Checked
 pub mod EditRows
+pub mod FaultText
 pub mod Fields
 pub mod FirstFault
 pub mod Headers

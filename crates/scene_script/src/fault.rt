@@ -1,4 +1,6 @@
 use scene_model::Reply;
+use std::error::Error;
+use std::fmt;
 
 /// A table of a script: its top level, or a kind of row.
 #[derive(Debug, Clone, Copy, PartialEq, Eq)]
@@ -109,3 +111,83 @@ pub enum SceneFault {
         reply: Reply,
     },
 }
+
+/// The name of the table, in small letters.
+impl fmt::Display for TableKind {
+    ghost use Rattle.std.specs.Prelude.{Some};
+    ghost use Rattle.scene_script.specs.FaultText.{table_text};
+
+    ghost output = { λ table. Some (table_text table) };
+
+    fn fmt<W: fmt::Write>(&self, f: &mut fmt::Formatter<W>) -> fmt::Result {
+        match self {
+            TableKind::Scene => f.write_str("scene"),
+            TableKind::Resource => f.write_str("resource"),
+            TableKind::Node => f.write_str("node"),
+            TableKind::Bus => f.write_str("bus"),
+            TableKind::Edit => f.write_str("edit"),
+        }
+    }
+}
+
+/// The name of the number.
+impl fmt::Display for Which {
+    ghost use Rattle.std.specs.Prelude.{Some};
+    ghost use Rattle.scene_script.specs.FaultText.{which_text};
+
+    ghost output = { λ which. Some (which_text which) };
+
+    fn fmt<W: fmt::Write>(&self, f: &mut fmt::Formatter<W>) -> fmt::Result {
+        match self {
+            Which::Rate => f.write_str("Rate"),
+            Which::Channels => f.write_str("Channels"),
+            Which::Width => f.write_str("Width"),
+            Which::Length => f.write_str("Length"),
+            Which::Resources => f.write_str("Resources"),
+            Which::FileName => f.write_str("FileName"),
+            Which::Nodes => f.write_str("Nodes"),
+            Which::Outputs => f.write_str("Outputs"),
+            Which::From => f.write_str("From"),
+            Which::Until => f.write_str("Until"),
+            Which::Buses => f.write_str("Buses"),
+            Which::BusRows => f.write_str("BusRows"),
+            Which::Edits => f.write_str("Edits"),
+            Which::Out => f.write_str("Out"),
+            Which::Gain => f.write_str("Gain"),
+            Which::At => f.write_str("At"),
+            Which::Value => f.write_str("Value"),
+            Which::Editor => f.write_str("Editor"),
+            Which::LiveLength => f.write_str("LiveLength"),
+        }
+    }
+}
+
+/// The fault's name and then its fields in order, each after a space.
+impl fmt::Display for SceneFault {
+    ghost use Rattle.std.specs.Prelude.{Some};
+    ghost use Rattle.scene_script.specs.FaultText.{fault_text};
+
+    ghost output = { λ fault. Some (fault_text fault) };
+
+    fn fmt<W: fmt::Write>(&self, f: &mut fmt::Formatter<W>) -> fmt::Result {
+        match *self {
+            SceneFault::NotToml => f.write_str("NotToml"),
+            SceneFault::Version { n } => write!(f, "Version {n}"),
+            SceneFault::MissingKey { table, row } => { write!(f, "MissingKey {table} {row}") }
+            SceneFault::WrongKind { table, row } => { write!(f, "WrongKind {table} {row}") }
+            SceneFault::UnknownKey { table, row } => { write!(f, "UnknownKey {table} {row}") }
+            SceneFault::UnknownName { table, row } => { write!(f, "UnknownName {table} {row}") }
+            SceneFault::DoubleName { table, row } => { write!(f, "DoubleName {table} {row}") }
+            SceneFault::Limit {
+                which,
+                found,
+                limit,
+            } => write!(f, "Limit {which} {found} {limit}"),
+            SceneFault::EditRefused { table, row, reply } => {
+                write!(f, "EditRefused {table} {row} {reply}")
+            }
+        }
+    }
+}
+
+impl Error for SceneFault {}

@@ -1,6 +1,8 @@
 use crate::fault::SceneFault;
 use plain_data::OutOfMemory;
 use std::alloc::{AllocError, AllocFailed};
+use std::error::Error;
+use std::fmt;
 
 /// Why a script couldn't be read.
 #[derive(Debug, Clone, Copy, PartialEq, Eq)]
@@ -10,6 +12,23 @@ pub enum ScriptError {
     /// There was no memory.
     OutOfMemory,
 }
+
+/// The text of the script's fault, or `out of memory`.
+impl fmt::Display for ScriptError {
+    ghost use Rattle.std.specs.Prelude.{Some};
+    ghost use Rattle.scene_script.specs.FaultText.{error_text};
+
+    ghost output = { λ error. Some (error_text error) };
+
+    fn fmt<W: fmt::Write>(&self, f: &mut fmt::Formatter<W>) -> fmt::Result {
+        match self {
+            ScriptError::Fault(fault) => write!(f, "{fault}"),
+            ScriptError::OutOfMemory => f.write_str("out of memory"),
+        }
+    }
+}
+
+impl Error for ScriptError {}
 
 impl From<SceneFault> for ScriptError {
     ghost use Rattle.std.specs.Prelude.{◌≡◌};

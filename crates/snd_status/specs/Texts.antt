@@ -3,7 +3,8 @@ use Rattle.std.specs.Prelude.{ℕ, List, ◌++◌, codes}
 use Rattle.std.specs.Fmt.{decimal}
 use Rattle.wave_read.specs.declared.kind.Kind.{Kind}
 use Rattle.wave_read.specs.declared.kind.Kind.TheVariants.{Pcm, Alaw, Ulaw, Ima}
-use Rattle.snd_status.specs.FaultTexts.{scene_fault_text, wave_fault_text}
+use Rattle.wave_read.specs.FaultText as wave
+use Rattle.scene_script.specs.FaultText as scene
 use Rattle.snd_status.specs.declared.mix_report.MixReport.{MixReport}
 use Rattle.snd_status.specs.declared.wave_report.WaveReport.{WaveReport}
 use Rattle.snd_status.specs.declared.status.Status.{Status}
@@ -17,8 +18,8 @@ status_text (Usage word) = codes "usage: word " ++ decimal word
 status_text DepotFault = codes "depot failed"
 status_text (Absent name) = codes "absent: " ++ name
 status_text (TooLong name limit) = codes "too long: " ++ name ++ codes " limit " ++ decimal limit
-status_text (Script fault) = codes "script: " ++ scene_fault_text fault
-status_text (File resource fault) = codes "file: " ++ decimal resource ++ codes ": " ++ wave_fault_text fault
+status_text (Script fault) = codes "script: " ++ scene.fault_text fault
+status_text (File resource fault) = codes "file: " ++ decimal resource ++ codes ": " ++ wave.fault_text fault
 status_text TextFault = codes "text failed"
 
 abbrev pub kind_text : Kind → List ℕ

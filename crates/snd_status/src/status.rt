@@ -1,7 +1,5 @@
 ghost use Rattle.std.specs.Prelude.{◌≡◌};
 
-use crate::scene_fault_text::SceneFaultText;
-use crate::wave_fault_text::WaveFaultText;
 use plain_data::Text;
 use scene_script::SceneFault;
 use std::fmt;
@@ -69,10 +67,8 @@ impl fmt::Display for Status {
             Status::TooLong { name, limit } => {
                 write!(f, "too long: {} limit {limit}", name.as_str())
             }
-            Status::Script(fault) => write!(f, "script: {}", SceneFaultText::new(*fault)),
-            Status::File { resource, fault } => {
-                write!(f, "file: {resource}: {}", WaveFaultText::new(*fault))
-            }
+            Status::Script(fault) => write!(f, "script: {fault}"),
+            Status::File { resource, fault } => write!(f, "file: {resource}: {fault}"),
             Status::TextFault => f.write_str("text failed"),
         }
     }

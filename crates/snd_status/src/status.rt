@@ -1,7 +1,9 @@
 ghost use Rattle.std.specs.Prelude.{◌≡◌};
 
-use plain_data::Text;
-use scene_script::SceneFault;
+use plain_data::{OutOfMemory, Text};
+use scene_script::{SceneFault, ScriptError};
+use snd_io::PutFault;
+use std::alloc::AllocFailed;
 use std::fmt;
 use wave_read::WaveFault;
 
@@ -70,6 +72,57 @@ impl fmt::Display for Status {
             Status::Script(fault) => write!(f, "script: {fault}"),
             Status::File { resource, fault } => write!(f, "file: {resource}: {fault}"),
             Status::TextFault => f.write_str("text failed"),
+        }
+    }
+}
+
+impl From<OutOfMemory> for Status {
+    ghost use Rattle.std.specs.Prelude.{◌≡◌};
+    ghost use Rattle.snd_status.specs.declared.status.Status.TheVariants.{OutOfMemory as NoMemory};
+
+    ghost from_gives = { λ _ status. status ≡ NoMemory };
+
+    fn from(_: OutOfMemory) -> Self {
+        Status::OutOfMemory
+    }
+}
+
+impl<T: Drop> From<AllocFailed<T>> for Status {
+    ghost use Rattle.std.specs.Prelude.{◌≡◌};
+    ghost use Rattle.snd_status.specs.declared.status.Status.TheVariants.{OutOfMemory as NoMemory};
+
+    ghost from_gives = { λ _ status. status ≡ NoMemory };
+
+    fn from(_: AllocFailed<T>) -> Self {
+        Status::OutOfMemory
+    }
+}
+
+/// Of a file that the store didn't take.
+impl From<PutFault> for Status {
+    ghost use Rattle.std.specs.Prelude.{◌≡◌};
+    ghost use Rattle.snd_status.specs.Statuses.{put_status};
+
+    ghost from_gives = { λ fault status. status ≡ put_status fault };
+
+    fn from(fault: PutFault) -> Self {
+        match fault {
+            PutFault::Failed => Status::DepotFault,
+            PutFault::OutOfMemory => Status::OutOfMemory,
+        }
+    }
+}
+
+impl From<ScriptError> for Status {
+    ghost use Rattle.std.specs.Prelude.{◌≡◌};
+    ghost use Rattle.snd_status.specs.Statuses.{script_status};
+
+    ghost from_gives = { λ error status. status ≡ script_status error };
+
+    fn from(error: ScriptError) -> Self {
+        match error {
+            ScriptError::Fault(fault) => Status::Script(fault),
+            ScriptError::OutOfMemory => Status::OutOfMemory,
         }
     }
 }

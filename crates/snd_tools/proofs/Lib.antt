@@ -1,4 +1,3 @@
-pub mod FileSets
 pub mod Lines
 pub mod Numbers
 pub mod Outcomes

@@ -29,10 +29,19 @@ by-fit (Err e) size value some known =
     not-fit false is = ltb-false value (2 ^ 32) is
 
 -- a numeral is read to its number, where that fits
-pub parsed : {E : Type 0} (word : List ℕ) (r : Result ℕ E) → is_numeral word ≡ true → ParsesUnsigned 32 10 word r → result_ok r ≡ number word
-parsed word r numeral reads =
-    let plain = both (nat_le 1 (length word) && nat_le (length word) 10 && has_only_digits word) _ numeral in
-    let some = both (nat_le 1 (length word)) _ (both (nat_le 1 (length word) && nat_le (length word) 10) _ plain.0).0 in
-    let digits = sym (same-test word) ∙ (both _ (has_only_digits word) plain.0).1 in
-    rw numeral (by-fit r (length word) (digits_value 10 word) (leb-true 1 (length word) some.0)
-    (parse_digits (numerals_by_value _ tells_all_ascii_digits) 32 word r reads digits))
+parsed : {E : Type 0} (digits : ℕ) (word : List ℕ) (r : Result ℕ E) → is_numeral digits word ≡ true → ParsesUnsigned 32 10 word r
+    → result_ok r ≡ if nat_lt (digits_value 10 word) (2 ^ 32) then Some (digits_value 10 word) else None
+parsed digits word r numeral reads =
+    let sized = both (nat_le 1 (length word) && nat_le (length word) digits) _ numeral in
+    let some = both (nat_le 1 (length word)) _ sized.0 in
+    let plain = sym (same-test word) ∙ sized.1 in
+    by-fit r (length word) (digits_value 10 word) (leb-true 1 (length word) some.0)
+    (parse_digits (numerals_by_value _ tells_all_ascii_digits) 32 word r reads plain)
+
+module _ {E : Type 0} (digits limit : ℕ) (word : List ℕ) (numeral : is_numeral digits word ≡ true) (small : limit < 2 ^ 32) where
+  -- a number that fits, and is or isn't at most the limit
+  pub read-number : (r : Result ℕ E) (value : ℕ) → r ≡ Ok value → ParsesUnsigned 32 10 word r → (if nat_le value limit then Some value else None) ≡ number digits limit word
+  read-number r value is reads = ?
+
+  pub read-none : (r : Result ℕ E) (error : E) → r ≡ Err error → ParsesUnsigned 32 10 word r → None ≡ number digits limit word
+  read-none r error is reads = ?

@@ -1,33 +1,43 @@
 -- From what the parts of a command gave to what its status says.
-use Rattle.std.proofs.Common.{◌≡◌, ◌⊎◌, ℕ, true, List, [], ◌∷◌, Option, Some, None, Result, Ok, Err, IfSome, String, Global, string_bytes, refl, ◌∙◌, ap, sym, subst, inl, inr}
+use Rattle.std.proofs.Common.{◌≡◌, ◌⊎◌, ℕ, Bool, true, false, List, [], ◌∷◌, Option, Some, None, Result, Ok, Err, IfSome, String, Global, string_bytes, refl, ◌∙◌, ap, sym, subst, inl, inr}
 use Rattle.std.specs.Option.{option_map}
+use Rattle.std.specs.Result.{IsErrAnd}
+use Rattle.std.proofs.lemmas.Result.{err_from_is_err_and}
 use Rattle.snd_io.specs.Answers.{IsPrefix}
+use Rattle.snd_io.specs.Faults.{CountsFaults}
 use Rattle.snd_io.proofs.PrefixLemmas.{IsPrefix-all}
 use Rattle.snd_io.specs.Files.{Files, Told, put_file}
+use Rattle.snd_status.specs.Statuses.{Ending, Success, NoMemory, Refusal, DepotFailure, TextFailure, ending}
 use Rattle.snd_status.specs.declared.status.Status.{Status}
 use Rattle.snd_status.specs.declared.status.Status.TheVariants.{Done, OutOfMemory, Usage, DepotFault, Absent, TooLong, Script, File, TextFault}
-use Rattle.snd_tools.specs.Meets.{put_all, IsWrittenInPart, IsLeft, IsWritten, Stops, Works, IsPrinted, MayPrint, Meets}
-use Rattle.snd_tools.specs.Outcome.{OutputFile, Outcome, Report, status_line}
-use Rattle.snd_tools.specs.Reading.{◌>>=◌, Ends, GivesBy, is_depot_fault}
-use Rattle.snd_tools.specs.Printing.{PrintsDone, PrintsOr, Prints}
+use Rattle.snd_tools.specs.Counts.{CountsDepot, may_have_failed}
+use Rattle.snd_tools.specs.Meets.{put_all, IsWrittenInPart, IsLeft, IsWritten, StopsAs, Stops, Works, IsPrinted, MayPrint, MeetsAs, Meets}
+use Rattle.snd_tools.specs.Outcome.{OutputFile, Outcome, Report, comes_to, IsRefused, MayReport, status_line}
+use Rattle.snd_tools.specs.Reading.{◌>>=◌, EndsAs, Ends, GivesBy, is_depot_failure, is_depot_fault, ends_work, stopped_by_depot}
+use Rattle.snd_tools.specs.Printing.{PrintsDoneAs, PrintsDone, PrintsOr, Prints, TellsAs, Tells, has_line, has_outcome_line}
 
-pub IfSome-at : {A : Type 0} (P : A → Type 0) (o : Option A) (x : A) → o ≡ Some x → IfSome o P → P x
-IfSome-at P None x is h = cc
-IfSome-at P (Some y) x is h = let same : y ≡ x = cc in subst P same h
+-- ---- the statuses of each ending that has one alone
+
+only_depot_fault : (status : Status) → ending status ≡ DepotFailure → DepotFault ≡ status
+only_depot_fault DepotFault is = refl
+only_depot_fault _ is = cc
+
+only_out_of_memory : (status : Status) → ending status ≡ NoMemory → OutOfMemory ≡ status
+only_out_of_memory OutOfMemory is = refl
+only_out_of_memory _ is = cc
 
 -- ---- parts of the work, one after the other
 
 -- a part that ended ends what follows it
 pub ends-then : {A B : Type 0} (status : Status) (said : Result A Status) (next : A → Result B Status) → Ends status said → Ends status (said >>= next)
-ends-then Done said next ends = absurd ends
-ends-then OutOfMemory said next ends = tt
-ends-then (Usage word) said next ends = ap (λ r. r >>= next) ends
-ends-then DepotFault said next ends = tt
-ends-then (Absent name) said next ends = ap (λ r. r >>= next) ends
-ends-then (TooLong name limit) said next ends = ap (λ r. r >>= next) ends
-ends-then (File resource fault) said next ends = ap (λ r. r >>= next) ends
-ends-then TextFault said next ends = absurd ends
-ends-then (Script fault) said next ends = ap (λ r. r >>= next) ends
+ends-then status said next ends = by (ending status) ends
+  where
+    by : (e : Ending) → EndsAs e status said → EndsAs e status (said >>= next)
+    by Success ends = absurd ends
+    by NoMemory ends = tt
+    by Refusal ends = ap (λ r. r >>= next) ends
+    by DepotFailure ends = tt
+    by TextFailure ends = absurd ends
 
 -- a part that gave what is said, and the next one by it
 pub gives-then : {A B C D : Type 0} (view : C → A) (seen : D → B) (x : C) (answer : Result D Status) (said : Result A Status) (next : A → Result B Status)
@@ -36,36 +46,34 @@ gives-then view seen x answer said next is given = subst (λ r. GivesBy seen ans
 
 -- ---- a command that ends before it writes
 
-pub IsLeft-same : (o : Outcome) (files : Files) → IsLeft o files files
-IsLeft-same (Ok report) files = nothing report.outputs files
+pub stops : {A : Type 0} (status : Status) (said : Result A Status) (next : A → Result Report Status) (files : Files) (depot_rose : Type 0)
+    → Ends status said → (is_depot_fault status ≡ true → depot_rose) → Stops (comes_to (said >>= next)) files files depot_rose status
+stops status said next files depot_rose ends cause = by (ending status) ends cause
   where
-    nothing : (outputs : List OutputFile) (files : Files) → IsWrittenInPart outputs files files
-    nothing [] files = refl
-    nothing (output ∷ outputs) files = inl refl
-IsLeft-same (Err status) files = refl
+    by : (e : Ending) → EndsAs e status said → (is_depot_failure e ≡ true → depot_rose) → StopsAs e (comes_to (said >>= next)) files files depot_rose status
+    by Success ends cause = absurd ends
+    by NoMemory ends cause = inl refl
+    by Refusal ends cause = (subst (λ r. IsRefused (comes_to (r >>= next)) status) (sym ends) refl, refl)
+    by DepotFailure ends cause = (cause refl, inl refl)
+    by TextFailure ends cause = absurd ends
 
-pub stops : {A : Type 0} (status : Status) (said : Result A Status) (next : A → Outcome) (files : Files) (depot_rose : Type 0)
-    → Ends status said → (is_depot_fault status ≡ true → depot_rose) → Stops (said >>= next) files files depot_rose status
-stops Done said next files depot_rose ends cause = absurd ends
-stops OutOfMemory said next files depot_rose ends cause = IsLeft-same (said >>= next) files
-stops (Usage word) said next files depot_rose ends cause = (ap (λ r. r >>= next) ends, refl)
-stops DepotFault said next files depot_rose ends cause = (cause refl, IsLeft-same (said >>= next) files)
-stops (Absent name) said next files depot_rose ends cause = (ap (λ r. r >>= next) ends, refl)
-stops (TooLong name limit) said next files depot_rose ends cause = (ap (λ r. r >>= next) ends, refl)
-stops (File resource fault) said next files depot_rose ends cause = (ap (λ r. r >>= next) ends, refl)
-stops TextFault said next files depot_rose ends cause = absurd ends
-stops (Script fault) said next files depot_rose ends cause = (ap (λ r. r >>= next) ends, refl)
+-- a status that is passed on
+pub works-passed : (o : Outcome) (before after : Files) (depot_rose : Type 0) (passed : Result (String Global) Status) (status : Status)
+    → IsErrAnd passed (λ s. s ≡ status) → Stops o before after depot_rose status → Works o before after depot_rose passed
+works-passed o before after depot_rose passed status same stop =
+    let p = err_from_is_err_and passed same in
+    subst (λ r. Works o before after depot_rose r) (sym (p.1 ∙ ap Err p.2)) stop
 
 -- ---- a command that writes one file
 
-pub left-in_part : (o : Outcome) (report : Report) (output : OutputFile) (before : Files) (old new : Told) → o ≡ Ok report → report.outputs ≡ output ∷ [] → old ≡ Some before
+pub left-in_part : (o : Outcome) (report : Report) (output : OutputFile) (before : Files) (old new : Told) → MayReport o report → report.outputs ≡ output ∷ [] → old ≡ Some before
     → (new ≡ old) ⊎ ((part : List ℕ) × IsPrefix part output.bytes × (new ≡ option_map (put_file output.name part) old))
     → (after : Files) × (new ≡ Some after) × IsLeft o before after
-left-in_part o report output before old new is only told (inl same) = (before, same ∙ told, IsLeft-same o before)
+left-in_part o report output before old new is only told (inl same) = (before, same ∙ told, inl refl)
 left-in_part o report output before old new is only told (inr (part, prefix, set)) = (
   put_file output.name part before,
   set ∙ ap (option_map (put_file output.name part)) told,
-  rw is (subst (λ outputs. IsWrittenInPart outputs before (put_file output.name part before)) (sym only) (inr (inl (part, prefix, refl)))),
+  inr (report, is, subst (λ outputs. IsWrittenInPart outputs before (put_file output.name part before)) (sym only) (inr (inl (part, prefix, refl)))),
 )
 
 -- ---- from the work on files, and what was printed of it, to the status
@@ -76,68 +84,107 @@ written-left (output ∷ outputs) files = inr (inr (written-left outputs (put_fi
 
 module _ (o : Outcome) (before after : Files) (added : List ℕ) (depot_rose text_rose : Type 0) where
   left-written : (report : Report) → IsWritten o before after report → IsLeft o before after
-  left-written report w =
-      rw (w.reported, w.set) (written-left report.outputs before)
-
-  refused : (refusal : Status) → o ≡ Err refusal → after ≡ before → IsLeft o before after
-  refused refusal is same = rw is same
+  left-written report w = inr (report, w.reported, rw w.set (written-left report.outputs before))
 
   prefix-printed : (line : List ℕ) → IsPrinted text_rose line added → IsPrefix added line
   prefix-printed line (inl whole) = subst (λ text. IsPrefix added text) whole (IsPrefix-all added)
   prefix-printed line (inr (fault, part)) = part
 
-  printed-status : (status : Status) → Stops o before after depot_rose status → IsPrinted text_rose (status_line status) added → Meets o before after added depot_rose text_rose status
-  printed-status Done stop told = absurd stop
-  printed-status OutOfMemory stop told = (stop, inl (prefix-printed (status_line OutOfMemory) told))
-  printed-status (Usage word) stop told = record { stops = stop; printed = told }
-  printed-status DepotFault stop told = record { stops = stop; printed = told }
-  printed-status (Absent name) stop told = record { stops = stop; printed = told }
-  printed-status (TooLong name limit) stop told = record { stops = stop; printed = told }
-  printed-status (File resource fault) stop told = record { stops = stop; printed = told }
-  printed-status TextFault stop told = absurd stop
-  printed-status (Script fault) stop told = record { stops = stop; printed = told }
+  may_print : (e : Ending) (status : Status) → ending status ≡ e → StopsAs e o before after depot_rose status → IsPrefix added (status_line status) → MayPrint o before after added depot_rose
+  may_print Success status is stop part = absurd stop
+  may_print NoMemory status is stop part = inl (subst (λ s. IsPrefix added (status_line s)) (sym (only_out_of_memory status is)) part)
+  may_print Refusal status is stop part = inr (inl (status, stop.0, part))
+  may_print DepotFailure status is stop part =
+      inr (inr (inl (stop.0, subst (λ s. IsPrefix added (status_line s)) (sym (only_depot_fault status is)) part)))
+  may_print TextFailure status is stop part = absurd stop
 
-  stop-left : (status : Status) → Stops o before after depot_rose status → IsLeft o before after
-  stop-left Done stop = absurd stop
-  stop-left OutOfMemory stop = stop
-  stop-left (Usage word) stop = refused (Usage word) stop.0 stop.1
-  stop-left DepotFault stop = stop.1
-  stop-left (Absent name) stop = refused (Absent name) stop.0 stop.1
-  stop-left (TooLong name limit) stop = refused (TooLong name limit) stop.0 stop.1
-  stop-left (File resource fault) stop = refused (File resource fault) stop.0 stop.1
-  stop-left TextFault stop = absurd stop
-  stop-left (Script fault) stop = refused (Script fault) stop.0 stop.1
+  printed-as : (e : Ending) (status : Status) → ending status ≡ e → StopsAs e o before after depot_rose status → IsPrinted text_rose (status_line status) added
+      → MeetsAs e o before after added depot_rose text_rose status
+  printed-as Success status is stop printed = absurd stop
+  printed-as NoMemory status is stop printed = (stop, may_print NoMemory status is stop (prefix-printed (status_line status) printed))
+  printed-as Refusal status is stop printed = (stop.0, stop.1, printed)
+  printed-as DepotFailure status is stop printed = (stop.0, stop.1, printed)
+  printed-as TextFailure status is stop printed = absurd stop
 
-  stop-may_print : (status : Status) → Stops o before after depot_rose status → IsPrefix added (status_line status) → MayPrint o before after added depot_rose
-  stop-may_print Done stop part = absurd stop
-  stop-may_print OutOfMemory stop part = inl part
-  stop-may_print (Usage word) stop part = inr (inl (Usage word, stop.0, part))
-  stop-may_print DepotFault stop part = inr (inr (inl (stop.0, part)))
-  stop-may_print (Absent name) stop part = inr (inl (Absent name, stop.0, part))
-  stop-may_print (TooLong name limit) stop part = inr (inl (TooLong name limit, stop.0, part))
-  stop-may_print (File resource fault) stop part = inr (inl (File resource fault, stop.0, part))
-  stop-may_print TextFault stop part = absurd stop
-  stop-may_print (Script fault) stop prefix = inr (inl (Script fault, stop.0, prefix))
+  stop-left : (e : Ending) (status : Status) → StopsAs e o before after depot_rose status → IsLeft o before after
+  stop-left Success status stop = absurd stop
+  stop-left NoMemory status stop = stop
+  stop-left Refusal status stop = inl stop.1
+  stop-left DepotFailure status stop = stop.1
+  stop-left TextFailure status stop = absurd stop
 
   printed-or : (status answer : Status) → Stops o before after depot_rose status → PrintsOr status added text_rose answer → Meets o before after added depot_rose text_rose answer
-  printed-or status answer stop (inl (same, told)) = subst (λ s. Meets o before after added depot_rose text_rose s) (sym same) (printed-status status stop told)
+  printed-or status answer stop (inl (same, printed)) =
+      subst (λ s. Meets o before after added depot_rose text_rose s) (sym same) (printed-as (ending status) status refl stop printed)
   printed-or status answer stop (inr (same, inl part)) =
-      subst (λ s. Meets o before after added depot_rose text_rose s) (sym same) (stop-left status stop, stop-may_print status stop part)
+      subst (λ s. Meets o before after added depot_rose text_rose s) (sym same) (stop-left (ending status) status stop, may_print (ending status) status refl stop part)
   printed-or status answer stop (inr (same, inr part)) =
-      subst (λ s. Meets o before after added depot_rose text_rose s) (sym same) (stop-left status stop, inl part)
+      subst (λ s. Meets o before after added depot_rose text_rose s) (sym same) (stop-left (ending status) status stop, inl part)
 
-  printed-done : (text : List ℕ) (report : Report) (answer : Status) → IsWritten o before after report → text ≡ report.line
-      → PrintsDone text added text_rose answer → Meets o before after added depot_rose text_rose answer
-  printed-done text report Done w is told = (report, w, told ∙ is)
-  printed-done text report OutOfMemory w is told = (left-written report w, inr (inr (inr (report, w, subst (λ line. IsPrefix added line) is told))))
-  printed-done text report (Usage word) w is told = absurd told
-  printed-done text report DepotFault w is told = absurd told
-  printed-done text report (Absent name) w is told = absurd told
-  printed-done text report (TooLong name limit) w is told = absurd told
-  printed-done text report (File resource fault) w is told = absurd told
-  printed-done text report TextFault w is told = (told.0, (report, w, subst (λ line. IsPrefix added line) is told.1))
-  printed-done text report (Script fault) w is told = absurd told
+  printed-done : (e : Ending) (text : List ℕ) (report : Report) (answer : Status) → IsWritten o before after report → text ≡ report.line
+      → PrintsDoneAs e text added text_rose → MeetsAs e o before after added depot_rose text_rose answer
+  printed-done Success text report answer w is printed = (report, w, printed ∙ is)
+  printed-done NoMemory text report answer w is printed =
+      (left-written report w, inr (inr (inr (report, w, subst (λ line. IsPrefix added line) is printed))))
+  printed-done Refusal text report answer w is printed = absurd printed
+  printed-done DepotFailure text report answer w is printed = absurd printed
+  printed-done TextFailure text report answer w is printed = (printed.0, (report, w, subst (λ line. IsPrefix added line) is printed.1))
 
   pub meets : (came_to : Result (String Global) Status) (answer : Status) → Works o before after depot_rose came_to → Prints came_to added text_rose answer → Meets o before after added depot_rose text_rose answer
-  meets (Ok text) answer (report, w, is) told = printed-done (string_bytes text) report answer w is told
-  meets (Err status) answer stop told = printed-or status answer stop told
+  meets (Ok text) answer (report, w, is) printed = printed-done (ending answer) (string_bytes text) report answer w is printed
+  meets (Err status) answer stop printed = printed-or status answer stop printed
+
+-- ---- what follows from what was printed alone
+
+module _ (added : List ℕ) (text_rose : Type 0) where
+  tells-status : (e : Ending) (status : Status) → ends_work e ≡ true → IsPrinted text_rose (status_line status) added → TellsAs e status added text_rose
+  tells-status Success status has printed = cc
+  tells-status NoMemory status has printed = tt
+  tells-status Refusal status has printed = printed
+  tells-status DepotFailure status has printed = printed
+  tells-status TextFailure status has printed = cc
+
+  tells-done : (e : Ending) (line : List ℕ) (status : Status) → PrintsDoneAs e line added text_rose → TellsAs e status added text_rose
+  tells-done Success line status printed = tt
+  tells-done NoMemory line status printed = tt
+  tells-done Refusal line status printed = absurd printed
+  tells-done DepotFailure line status printed = absurd printed
+  tells-done TextFailure line status printed = printed.0
+
+  pub tells : (came_to : Result (String Global) Status) (answer : Status) → has_outcome_line came_to ≡ true → Prints came_to added text_rose answer → Tells answer added text_rose
+  tells (Ok text) answer has printed = tells-done (ending answer) (string_bytes text) answer printed
+  tells (Err status) answer has (inl (same, printed)) = subst (λ s. Tells s added text_rose) (sym same) (tells-status (ending status) status has printed)
+  tells (Err status) answer has (inr (same, part)) = subst (λ s. Tells s added text_rose) (sym same) tt
+
+  counted-done : (e : Ending) (line : List ℕ) → e ≡ DepotFailure → PrintsDoneAs e line added text_rose → ⊥
+  counted-done Success line is printed = cc
+  counted-done NoMemory line is printed = cc
+  counted-done Refusal line is printed = printed
+  counted-done DepotFailure line is printed = printed
+  counted-done TextFailure line is printed = cc
+
+  unfailed : (e : Ending) → may_have_failed e ≡ false → is_depot_failure e ≡ false
+  unfailed Success is = refl
+  unfailed NoMemory is = refl
+  unfailed Refusal is = refl
+  unfailed DepotFailure is = cc
+  unfailed TextFailure is = refl
+
+  -- the count of the depot after the work, and the status that was answered
+  pub counted : (before now : ℕ) (came_to : Result (String Global) Status) (answer : Status) → CountsFaults before now (stopped_by_depot came_to)
+      → Prints came_to added text_rose answer → CountsDepot before now answer
+  counted before now (Ok text) answer counts printed = record {
+    later = counts.later;
+    stays = λ is. counts.stays refl;
+    cause = λ is. absurd (counted-done (ending answer) (string_bytes text) (ap ending is) printed);
+  }
+  counted before now (Err status) answer counts (inl (same, printed)) = record {
+    later = counts.later;
+    stays = λ is. counts.stays (unfailed (ending status) (ap (λ s. may_have_failed (ending s)) (sym same) ∙ is));
+    cause = λ is. counts.cause (ap is_depot_fault (sym same ∙ is));
+  }
+  counted before now (Err status) answer counts (inr (same, part)) = record {
+    later = counts.later;
+    stays = λ is. let not : may_have_failed (ending OutOfMemory) ≡ false = ap (λ s. may_have_failed (ending s)) (sym same) ∙ is in cc;
+    cause = λ is. let not : OutOfMemory ≡ DepotFault = sym same ∙ is in cc;
+  }

@@ -1,13 +1,21 @@
 -- The words after the program's name, as a command. Words are counted from 0.
-use Rattle.std.specs.Prelude.{ℕ, ◌^◌, Bool, false, not, ◌&&◌, ◌||◌, ◌==◌, nat_le, nat_lt, if◌then◌else◌, List, [], ◌∷◌, length, codes, Option, Some, None, Result, Ok, Err}
+use Rattle.std.specs.Prelude.{ℕ, Bool, ◌&&◌, ◌||◌, ◌==◌, nat_le, if◌then◌else◌, List, [], ◌∷◌, length, codes, Option, Some, None, Result, Ok, Err}
 use Rattle.std.specs.List.{list_all}
 use Rattle.std.specs.Char.{is_ascii_alphanumeric, is_ascii_digit}
 use Rattle.std.specs.Str.{bytes_eq}
 use Rattle.std.specs.Str.Parse.{digits_value}
 
+-- the bytes of a path
+abbrev pub most_path_bytes : ℕ
+most_path_bytes = 255
+
+-- the bytes of PREFIX
+abbrev pub most_prefix_bytes : ℕ
+most_prefix_bytes = 64
+
 -- the path of a file: 1 to 255 bytes
 abbrev pub is_path : List ℕ → Bool
-is_path word = nat_le 1 (length word) && nat_le (length word) 255
+is_path word = nat_le 1 (length word) && nat_le (length word) most_path_bytes
 
 -- an ASCII letter or digit, `_`, `-`, `.` or `/`
 abbrev pub is_prefix_byte : ℕ → Bool
@@ -18,24 +26,29 @@ has_only_prefix_bytes word = list_all is_prefix_byte word
 
 -- what the names of generated files begin with: 1 to 64 bytes of that form
 abbrev pub is_prefix : List ℕ → Bool
-is_prefix word = nat_le 1 (length word) && nat_le (length word) 64 && has_only_prefix_bytes word
+is_prefix word = nat_le 1 (length word) && nat_le (length word) most_prefix_bytes && has_only_prefix_bytes word
 
 abbrev pub has_only_digits : List ℕ → Bool
 has_only_digits word = list_all is_ascii_digit word
 
--- a 0 before other digits
-abbrev pub has_leading_zero : List ℕ → Bool
-has_leading_zero (first ∷ second ∷ rest) = first == 48
-has_leading_zero _ = false
+-- 1 to so many digits, leading zeros among them
+abbrev pub is_numeral : ℕ → List ℕ → Bool
+is_numeral digits word = nat_le 1 (length word) && nat_le (length word) digits && has_only_digits word
 
--- 1 to 10 digits, with no leading zero
-abbrev pub is_numeral : List ℕ → Bool
-is_numeral word =
-    nat_le 1 (length word) && nat_le (length word) 10 && has_only_digits word && not (has_leading_zero word)
+-- the number of such a word, if it is at most the limit
+abbrev pub number : ℕ → ℕ → List ℕ → Option ℕ
+number digits limit word = if is_numeral digits word && nat_le (digits_value 10 word) limit then Some (digits_value 10 word) else None
 
--- the number of such a word, which is at most 4294967295
-abbrev pub number : List ℕ → Option ℕ
-number word = if is_numeral word && nat_lt (digits_value 10 word) (2 ^ 32) then Some (digits_value 10 word) else None
+-- NUMBER of `gen`
+abbrev pub most_number_digits : ℕ
+most_number_digits = 10
+
+abbrev pub most_number : ℕ
+most_number = 4294967295
+
+-- The programs, each with commands of its own.
+pub data Program : Type 0 where
+  Scenetool : Program
 
 pub data Command : Type 0 where
   -- mix SCENE OUT
@@ -67,13 +80,13 @@ gen_command (Some n) prefix = if is_prefix prefix then Ok (Gen n prefix) else Er
 abbrev pub gen_words : List (List ℕ) → Result Command ℕ
 gen_words [] = Err 1
 gen_words (word ∷ []) = Err 2
-gen_words (word ∷ prefix ∷ []) = gen_command (number word) prefix
+gen_words (word ∷ prefix ∷ []) = gen_command (number most_number_digits most_number word) prefix
 gen_words (word ∷ prefix ∷ extra ∷ more) = Err 3
 
--- the command, or the place of the first word that doesn't fit
-abbrev pub command : List (List ℕ) → Result Command ℕ
-command [] = Err 0
-command (word ∷ words) =
+-- the command of a program, or the place of the first word that doesn't fit
+abbrev pub command : Program → List (List ℕ) → Result Command ℕ
+command Scenetool [] = Err 0
+command Scenetool (word ∷ words) =
     if bytes_eq word (codes "mix") then mix_words words else
     if bytes_eq word (codes "info") then info_words words else
     if bytes_eq word (codes "gen") then gen_words words else

@@ -1,7 +1,9 @@
 pub mod Commands
 pub mod CommandsRead
+pub mod Counts
+pub mod Laws
 pub mod Meets
 pub mod Outcome
+pub mod Printing
 pub mod Reading
 pub mod Rendered
-pub mod Printing

@@ -7,9 +7,10 @@ use Rattle.snd_io.specs.Answers.{IsPrefix}
 use Rattle.snd_io.specs.declared.answers.Put.{Put}
 use Rattle.snd_io.specs.declared.answers.Put.TheVariants.{Done as PutDone, Failed as PutFailed, OutOfMemory as PutOutOfMemory}
 use Rattle.snd_io.specs.Files.{Files, Told, put_file}
+use Rattle.snd_status.specs.Statuses.{Ending, Success, NoMemory, Refusal, DepotFailure, TextFailure, ending}
 use Rattle.snd_status.specs.declared.status.Status.{Status}
-use Rattle.snd_status.specs.declared.status.Status.TheVariants.{Done, OutOfMemory, Usage, DepotFault, Absent, TooLong, Script, File, TextFault}
-use Rattle.snd_tools.specs.Outcome.{OutputFile, Outcome, Report, status_line}
+use Rattle.snd_status.specs.declared.status.Status.TheVariants.{OutOfMemory, DepotFault}
+use Rattle.snd_tools.specs.Outcome.{OutputFile, Outcome, IsRefused, MayReport, Report, status_line}
 
 -- the files with each output set, and every other name as before
 abbrev pub put_all : List OutputFile → Files → Files
@@ -33,60 +34,57 @@ SetsAll PutDone outputs old new = new ≡ option_map (put_all outputs) old
 SetsAll PutFailed outputs old new = IsSetInPart outputs old new
 SetsAll PutOutOfMemory outputs old new = IsSetInPart outputs old new
 
--- where there is no refusal, the outputs may be written in part
+-- the files are as before, or, where there is no refusal, the outputs of a report are written in part
 abbrev pub IsLeft : Outcome → Files → Files → Type 0
-IsLeft (Ok report) before after = IsWrittenInPart report.outputs before after
-IsLeft (Err refusal) before after = after ≡ before
+IsLeft outcome before after =
+    (after ≡ before) ⊎ ((report : Report) × MayReport outcome report × IsWrittenInPart report.outputs before after)
 
 -- the outcome is this report, and each of its outputs is set
 pub record IsWritten (outcome : Outcome) (before after : Files) (report : Report) : Type 0 where
-  pub reported : outcome ≡ Ok report
+  pub reported : MayReport outcome report
   pub set : after ≡ put_all report.outputs before
 
--- What the work on the files came to: all was written, and the line is to be told, or it stopped with a status. `depot_rose` says
--- that the depot's count of faults depot_rose in the call.
+-- What the work on the files came to: all was written, and the line is to be told, or it stopped with a status. `depot_rose`
+-- says that the depot's count of faults rose in the call.
+abbrev pub StopsAs : Ending → Outcome → Files → Files → Type 0 → Status → Type 0
+StopsAs Success outcome before after depot_rose status = ⊥
+StopsAs NoMemory outcome before after depot_rose status = IsLeft outcome before after
+StopsAs Refusal outcome before after depot_rose status = IsRefused outcome status × (after ≡ before)
+StopsAs DepotFailure outcome before after depot_rose status = depot_rose × IsLeft outcome before after
+StopsAs TextFailure outcome before after depot_rose status = ⊥
+
 abbrev pub Stops : Outcome → Files → Files → Type 0 → Status → Type 0
-Stops outcome before after depot_rose Done = ⊥
-Stops outcome before after depot_rose OutOfMemory = IsLeft outcome before after
-Stops outcome before after depot_rose (Usage word) = (outcome ≡ Err (Usage word)) × (after ≡ before)
-Stops outcome before after depot_rose DepotFault = depot_rose × IsLeft outcome before after
-Stops outcome before after depot_rose (Absent name) = (outcome ≡ Err (Absent name)) × (after ≡ before)
-Stops outcome before after depot_rose (TooLong name limit) = (outcome ≡ Err (TooLong name limit)) × (after ≡ before)
-Stops outcome before after depot_rose (Script fault) = (outcome ≡ Err (Script fault)) × (after ≡ before)
-Stops outcome before after depot_rose (File resource fault) = (outcome ≡ Err (File resource fault)) × (after ≡ before)
-Stops outcome before after depot_rose TextFault = ⊥
+Stops outcome before after depot_rose status = StopsAs (ending status) outcome before after depot_rose status
 
 abbrev pub Works : Outcome → Files → Files → Type 0 → Result (String Global) Status → Type 0
 Works outcome before after depot_rose (Ok text) = (report : Report) × IsWritten outcome before after report × (string_bytes text ≡ report.line)
 Works outcome before after depot_rose (Err status) = Stops outcome before after depot_rose status
 
--- the line was added, or a prefix of it where the sink's count of faults depot_rose
+-- the line was added, or a prefix of it where the sink's count of faults rose
 abbrev pub IsPrinted : Type 0 → List ℕ → List ℕ → Type 0
 IsPrinted text_rose line added = (added ≡ line) ⊎ (text_rose × IsPrefix added line)
-
--- A status of a line, which is told.
-pub record PrintsStatus (outcome : Outcome) (before after : Files) (added : List ℕ) (depot_rose text_rose : Type 0) (status : Status) : Type 0 where
-  pub stops : Stops outcome before after depot_rose status
-  pub printed : IsPrinted text_rose (status_line status) added
 
 -- where there was no memory, a prefix of one line may have been added: of that of this status, of the refusal, of the depot's
 -- fault, or of the report where every output is set whole
 abbrev pub MayPrint : Outcome → Files → Files → List ℕ → Type 0 → Type 0
 MayPrint outcome before after added depot_rose =
     IsPrefix added (status_line OutOfMemory)
-    ⊎ (((refusal : Status) × (outcome ≡ Err refusal) × IsPrefix added (status_line refusal))
+    ⊎ (((refusal : Status) × IsRefused outcome refusal × IsPrefix added (status_line refusal))
     ⊎ ((depot_rose × IsPrefix added (status_line DepotFault))
     ⊎ ((report : Report) × IsWritten outcome before after report × IsPrefix added report.line)))
 
--- `depot_rose` says that the depot's count of faults depot_rose in the call, `text_rose` that the text sink's did
-abbrev pub Meets : Outcome → Files → Files → List ℕ → Type 0 → Type 0 → Status → Type 0
-Meets outcome before after added depot_rose text_rose Done = (report : Report) × IsWritten outcome before after report × (added ≡ report.line)
-Meets outcome before after added depot_rose text_rose TextFault =
+-- `depot_rose` says that the depot's count of faults rose in the call, `text_rose` that the text sink's did
+abbrev pub MeetsAs : Ending → Outcome → Files → Files → List ℕ → Type 0 → Type 0 → Status → Type 0
+MeetsAs Success outcome before after added depot_rose text_rose status =
+    (report : Report) × IsWritten outcome before after report × (added ≡ report.line)
+MeetsAs NoMemory outcome before after added depot_rose text_rose status = IsLeft outcome before after × MayPrint outcome before after added depot_rose
+MeetsAs Refusal outcome before after added depot_rose text_rose status =
+    IsRefused outcome status × (after ≡ before) × IsPrinted text_rose (status_line status) added
+MeetsAs DepotFailure outcome before after added depot_rose text_rose status =
+    depot_rose × IsLeft outcome before after × IsPrinted text_rose (status_line status) added
+MeetsAs TextFailure outcome before after added depot_rose text_rose status =
     text_rose × ((report : Report) × IsWritten outcome before after report × IsPrefix added report.line)
-Meets outcome before after added depot_rose text_rose OutOfMemory = IsLeft outcome before after × MayPrint outcome before after added depot_rose
-Meets outcome before after added depot_rose text_rose (Usage word) = PrintsStatus outcome before after added depot_rose text_rose (Usage word)
-Meets outcome before after added depot_rose text_rose DepotFault = PrintsStatus outcome before after added depot_rose text_rose DepotFault
-Meets outcome before after added depot_rose text_rose (Absent name) = PrintsStatus outcome before after added depot_rose text_rose (Absent name)
-Meets outcome before after added depot_rose text_rose (TooLong name limit) = PrintsStatus outcome before after added depot_rose text_rose (TooLong name limit)
-Meets outcome before after added depot_rose text_rose (Script fault) = PrintsStatus outcome before after added depot_rose text_rose (Script fault)
-Meets outcome before after added depot_rose text_rose (File resource fault) = PrintsStatus outcome before after added depot_rose text_rose (File resource fault)
+
+abbrev pub Meets : Outcome → Files → Files → List ℕ → Type 0 → Type 0 → Status → Type 0
+Meets outcome before after added depot_rose text_rose status =
+    MeetsAs (ending status) outcome before after added depot_rose text_rose status

@@ -1,9 +1,10 @@
 -- What a command comes to, from its words and from the files: the first refusal, or the files that are to be written and
 -- the line that is to be printed.
-use Rattle.std.specs.Prelude.{ℕ, ℤ, List, [], ◌∷◌, ◌++◌, map, length, codes, Result, Ok, Err}
+use Rattle.std.specs.Prelude.{◌≡◌, ℕ, ℤ, List, [], ◌∷◌, ◌++◌, map, length, codes, Result, Ok, Err}
 use Rattle.std.specs.List.{range_with_len}
 use Rattle.std.specs.FinMap.{get}
 use Rattle.wave_read.specs.declared.wave.Wave.{Wave}
+use Rattle.clip_decode.specs.Limits.{most_sound_bytes}
 use Rattle.clip_decode.specs.Pages.{page_count}
 use Rattle.scene_model.specs.SceneData.{SceneData}
 use Rattle.mix_model.specs.Output.{wav}
@@ -16,8 +17,8 @@ use Rattle.snd_status.specs.declared.mix_report.MixReport.{MixReport}
 use Rattle.snd_status.specs.declared.status.Status.{Status}
 use Rattle.snd_status.specs.declared.status.Status.TheVariants.{Usage}
 use Rattle.snd_status.specs.Texts.{mix_text, wave_text, status_text}
-use Rattle.snd_tools.specs.Commands.{Command, Mix, Info, Gen, command}
-use Rattle.snd_tools.specs.Reading.{◌>>=◌, file_read, most_sound_bytes, scene_read, sounds_read, surveyed}
+use Rattle.snd_tools.specs.Commands.{Program, Command, Mix, Info, Gen, command}
+use Rattle.snd_tools.specs.Reading.{◌>>=◌, file_read, scene_read, sounds_read, surveyed}
 
 -- a file that is to be written
 pub record OutputFile : Type 0 where
@@ -29,8 +30,26 @@ pub record Report : Type 0 where
   pub outputs : List OutputFile
   pub line : List ℕ
 
-abbrev pub Outcome : Type 0
-Outcome = Result Report Status
+-- What a command comes to: the first refusal, or a report of this kind. Most commands come to one report alone; one whose
+-- output isn't fixed comes to any of a kind.
+pub data Outcome : Type 1 where
+  Refused : Status → Outcome
+  Reports : (Report → Type 0) → Outcome
+
+-- the outcome of a command that comes to one report
+abbrev pub comes_to : Result Report Status → Outcome
+comes_to (Ok report) = Reports (λ r. r ≡ report)
+comes_to (Err status) = Refused status
+
+-- it is refused so
+abbrev pub IsRefused : Outcome → Status → Type 0
+IsRefused (Refused first) status = first ≡ status
+IsRefused (Reports Fits) status = ⊥
+
+-- it isn't refused, and this report is of its kind
+abbrev pub MayReport : Outcome → Report → Type 0
+MayReport (Refused first) report = ⊥
+MayReport (Reports Fits) report = Fits report
 
 -- each text is one line
 abbrev pub line : List ℕ → List ℕ
@@ -39,11 +58,6 @@ line text = text ++ 10 ∷ []
 -- the line of a status
 abbrev pub status_line : Status → List ℕ
 status_line status = line (status_text status)
-
--- a word that doesn't fit
-abbrev pub usage : {A : Type 0} → Result A ℕ → Result A Status
-usage (Ok words) = Ok words
-usage (Err word) = Err (Usage word)
 
 -- what is told of a scene that was rendered to these frames
 abbrev pub mix_report_of : SceneData → List (List ℤ) → MixReport
@@ -77,7 +91,7 @@ abbrev pub rendered_to : List ℕ → Rendering → Report
 rendered_to out r = record { outputs = record { name = out; bytes = r.file } ∷ []; line = r.line }
 
 -- `mix`: OUT is the WAVE file of the scene
-abbrev pub mix_outcome : Files → List ℕ → List ℕ → Outcome
+abbrev pub mix_outcome : Files → List ℕ → List ℕ → Result Report Status
 mix_outcome files scene out = do
   r ← rendered files scene
   Ok (rendered_to out r)
@@ -94,7 +108,7 @@ survey_line bytes = do
 abbrev pub only_line : List ℕ → Report
 only_line text = record { outputs = []; line = text }
 
-abbrev pub info_outcome : Files → List ℕ → Outcome
+abbrev pub info_outcome : Files → List ℕ → Result Report Status
 info_outcome files file = do
   text ← file_read most_sound_bytes file (get files file) >>= survey_line
   Ok (only_line text)
@@ -117,14 +131,19 @@ gen_outputs number prefix = sound_outputs number prefix sounds ++ record { name 
 abbrev pub gen_line : List ℕ
 gen_line = line (codes "files 9")
 
-abbrev pub gen_outcome : ℕ → List ℕ → Outcome
+abbrev pub gen_outcome : ℕ → List ℕ → Result Report Status
 gen_outcome number prefix = Ok (record { outputs = gen_outputs number prefix; line = gen_line })
 
 abbrev pub command_outcome : Files → Command → Outcome
-command_outcome files (Mix scene out) = mix_outcome files scene out
-command_outcome files (Info file) = info_outcome files file
-command_outcome files (Gen number prefix) = gen_outcome number prefix
+command_outcome files (Mix scene out) = comes_to (mix_outcome files scene out)
+command_outcome files (Info file) = comes_to (info_outcome files file)
+command_outcome files (Gen number prefix) = comes_to (gen_outcome number prefix)
 
--- the outcome of the program
-abbrev pub outcome : List (List ℕ) → Files → Outcome
-outcome words files = usage (command words) >>= command_outcome files
+-- a command, or a word that doesn't fit
+abbrev pub commanded : Files → Result Command ℕ → Outcome
+commanded files (Ok command) = command_outcome files command
+commanded files (Err word) = Refused (Usage word)
+
+-- the outcome of a program
+abbrev pub outcome : Program → List (List ℕ) → Files → Outcome
+outcome program words files = commanded files (command program words)

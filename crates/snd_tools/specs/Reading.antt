@@ -1,24 +1,22 @@
 -- What is read of a scene and of its sound files, and which refusal comes first.
 use Rattle.std.specs.Prelude.{◌≡◌, ℕ, ◌+◌, nat_lt, Bool, true, false, List, [], ◌∷◌, length, Option, Some, None, Result, Ok, Err, if◌then◌else◌}
 use Rattle.std.specs.FinMap.{get}
+use Rattle.clip_decode.specs.Limits.{most_sound_bytes}
 use Rattle.wave_read.specs.Wave.{wave}
 use Rattle.wave_read.specs.declared.wave.Wave.{Wave}
 use Rattle.wave_read.specs.declared.wave_fault.WaveFault.{WaveFault}
 use Rattle.scene_model.specs.declared.resource.Resource.{Resource}
 use Rattle.scene_model.specs.SceneData.{SceneData}
 use Rattle.snd_io.specs.Files.{Files}
+use Rattle.snd_status.specs.Statuses.{Ending, Success, NoMemory, Refusal, DepotFailure, TextFailure, ending}
 use Rattle.snd_status.specs.declared.status.Status.{Status}
-use Rattle.snd_status.specs.declared.status.Status.TheVariants.{Done, OutOfMemory, Usage, DepotFault, Absent, TooLong, Script, File, TextFault}
+use Rattle.snd_status.specs.declared.status.Status.TheVariants.{OutOfMemory, Usage, Absent, TooLong, Script, File}
 use Rattle.scene_script.specs.declared.fault.SceneFault.{SceneFault}
 use Rattle.scene_script.specs.Script.{scene}
 
 -- 4 MiB
 abbrev pub most_script_bytes : ℕ
 most_script_bytes = 4194304
-
--- 64 MiB, of one sound file
-abbrev pub most_sound_bytes : ℕ
-most_sound_bytes = 67108864
 
 -- 128 MiB, of all sound files of a scene
 abbrev pub most_total_bytes : ℕ
@@ -85,16 +83,15 @@ abbrev pub sounds_read : Files → List Resource → Result (List (List ℕ)) St
 sounds_read files resources = sounds_from files 0 0 resources
 
 -- a part of the work ended as is said, or the depot failed, or there was no memory
+abbrev pub EndsAs : {A : Type 0} → Ending → Status → Result A Status → Type 0
+EndsAs Success status said = ⊥
+EndsAs NoMemory status said = Unit {0}
+EndsAs Refusal status said = said ≡ Err status
+EndsAs DepotFailure status said = Unit {0}
+EndsAs TextFailure status said = ⊥
+
 abbrev pub Ends : {A : Type 0} → Status → Result A Status → Type 0
-Ends Done said = ⊥
-Ends OutOfMemory said = Unit {0}
-Ends (Usage word) said = said ≡ Err (Usage word)
-Ends DepotFault said = Unit {0}
-Ends (Absent name) said = said ≡ Err (Absent name)
-Ends (TooLong name limit) said = said ≡ Err (TooLong name limit)
-Ends (Script fault) said = said ≡ Err (Script fault)
-Ends (File resource fault) said = said ≡ Err (File resource fault)
-Ends TextFault said = ⊥
+Ends status said = EndsAs (ending status) status said
 
 -- a part of the work gave what is said, as `view` sees it, or ended
 abbrev pub GivesBy : {A B : Type 0} → (A → B) → Result A Status → Result B Status → Type 0
@@ -102,32 +99,32 @@ GivesBy view (Ok x) said = said ≡ Ok (view x)
 GivesBy view (Err status) said = Ends status said
 
 -- whether a part of the work ended because the depot failed
+abbrev pub is_depot_failure : Ending → Bool
+is_depot_failure Success = false
+is_depot_failure NoMemory = false
+is_depot_failure Refusal = false
+is_depot_failure DepotFailure = true
+is_depot_failure TextFailure = false
+
 abbrev pub is_depot_fault : Status → Bool
-is_depot_fault DepotFault = true
-is_depot_fault Done = false
-is_depot_fault OutOfMemory = false
-is_depot_fault (Usage word) = false
-is_depot_fault (Absent name) = false
-is_depot_fault (TooLong name limit) = false
-is_depot_fault (Script fault) = false
-is_depot_fault (File resource fault) = false
-is_depot_fault TextFault = false
+is_depot_fault status = is_depot_failure (ending status)
 
 abbrev pub stopped_by_depot : {A : Type 0} → Result A Status → Bool
 stopped_by_depot (Ok x) = false
 stopped_by_depot (Err status) = is_depot_fault status
 
--- whether the work on files can stop with a status: not with `Done`, nor with what the words or the text sink alone cause
+-- whether the work on files can end so: not with success, nor with what the text sink alone causes
+abbrev pub ends_work : Ending → Bool
+ends_work Success = false
+ends_work NoMemory = true
+ends_work Refusal = true
+ends_work DepotFailure = true
+ends_work TextFailure = false
+
+-- nor with what the words alone cause
 abbrev pub can_stop_with : Status → Bool
-can_stop_with Done = false
-can_stop_with TextFault = false
-can_stop_with OutOfMemory = true
 can_stop_with (Usage word) = false
-can_stop_with DepotFault = true
-can_stop_with (Absent name) = true
-can_stop_with (TooLong name limit) = true
-can_stop_with (Script fault) = true
-can_stop_with (File resource fault) = true
+can_stop_with status = ends_work (ending status)
 
 abbrev pub can_stop : {A : Type 0} → Result A Status → Bool
 can_stop (Ok x) = true

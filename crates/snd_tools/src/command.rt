@@ -1,8 +1,8 @@
 ghost use Rattle.std.specs.Prelude.{◌≡◌, map, string_bytes};
-ghost use Rattle.snd_tools.specs.Commands.{mix_words, info_words, gen_words, command};
+ghost use Rattle.snd_tools.specs.Commands.{Scenetool, mix_words, info_words, gen_words, command};
 ghost use Rattle.snd_tools.specs.CommandsRead.{GivesCommand};
 
-use crate::words::{is_path, is_prefix, read_number};
+use crate::words::{MAX_NUMBER, MAX_NUMBER_DIGITS, is_path, is_prefix, read_number};
 
 /// What the words after the program's name ask for.
 #[derive(Clone, Copy)]
@@ -15,9 +15,9 @@ pub(crate) enum Command<'a> {
     Gen { number: u32, prefix: &'a str },
 }
 
-/// Reads the words after the program's name, or gives the place of the first word that doesn't fit.
+/// Reads the words after the name of `scenetool`, or gives the place of the first word that doesn't fit.
 pub(crate) fn read_command(words: &[String]) -> Result<Command<'_>, u32>
-    ensures { GivesCommand result (command (map string_bytes words.now)) }
+    ensures { GivesCommand result (command Scenetool (map string_bytes words.now)) }
 {
     match words.split_first() {
         Some((word, rest)) if word.as_str() == "mix" => read_mix_words(rest),
@@ -76,7 +76,7 @@ fn read_gen_words(words: &[String]) -> Result<Command<'_>, u32>
     match words {
         [] => Err(1),
         [_number] => Err(2),
-        [number, prefix] => match read_number(number.as_str()) {
+        [number, prefix] => match read_number(number.as_str(), MAX_NUMBER_DIGITS, MAX_NUMBER) {
             Some(number) => {
                 if is_prefix(prefix.as_str()) {
                     Ok(Command::Gen {

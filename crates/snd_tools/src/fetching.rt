@@ -1,13 +1,15 @@
 ghost use Rattle.std.specs.Prelude.{◌≡◌, true, ◌+◌, ◌≤◌, false, None, Some, IfSome, IfOk, map, length, All};
 ghost use Rattle.std.specs.FinMap.{get};
+ghost use Rattle.clip_decode.specs.Limits.{most_sound_bytes};
+ghost use Rattle.scene_model.specs.Limits as limits;
 ghost use Rattle.snd_io.specs.Faults.{CountsFaults};
 ghost use Rattle.snd_tools.specs.Reading as spec;
 ghost use Rattle.snd_tools.specs.Reading.{Ends, GivesBy, stopped_by_depot, can_stop};
 
-use clip_decode::{Clip, ClipError};
+use clip_decode::{Clip, ClipError, MAX_SOUND_BYTES};
 use plain_data::Text;
 use scene_model::{Resource, Scene};
-use scene_script::{ScriptError, read_scene as read_script};
+use scene_script::read_scene as read_script;
 use snd_io::{Depot, Fetch};
 use snd_status::Status;
 use std::alloc::Global;
@@ -15,9 +17,6 @@ use std::marker::Model;
 
 /// The most bytes of a script.
 const MAX_SCRIPT_BYTES: u64 = 4_194_304;
-
-/// The most bytes of a sound file.
-pub(crate) const MAX_SOUND_BYTES: u64 = 67_108_864;
 
 /// The most bytes of all sound files of a scene.
 const MAX_TOTAL_BYTES: u64 = 134_217_728;
@@ -70,11 +69,7 @@ fn scene_of(alloc: Global, text: &[u8]) -> Result<Scene, Status>
     ensures no_fault { stopped_by_depot result ≡ false }
     ensures stop { can_stop result ≡ true }
 {
-    match read_script(alloc, text) {
-        Ok(scene) => Ok(scene),
-        Err(ScriptError::Fault(fault)) => Err(Status::Script(fault)),
-        Err(ScriptError::OutOfMemory) => Err(Status::OutOfMemory),
-    }
+    Ok(read_script(alloc, text)?)
 }
 
 /// Reads the sound files of resources in their order, and no file changes.
@@ -84,10 +79,10 @@ pub(crate) fn read_sounds<D: Depot>(
     resources: &[Resource],
 ) -> Result<Vec<Clip>, Status>
     requires closed { D.writing depot.old ≡ None }
-    requires few { length resources.now ≤ 64 }
+    requires few { length resources.now ≤ limits.most_resources }
     ensures told { IfSome (D.files depot.old) (λ files. GivesBy (λ clips. map (λ clip. clip.bytes) clips.items) result (spec.sounds_from files 0 0 resources.now)) }
     ensures count { IfOk result (λ clips. length clips.items ≡ length resources.now) }
-    ensures sizes { IfOk result (λ clips. All (λ clip. length clip.bytes ≤ 67108864) clips.items) }
+    ensures sizes { IfOk result (λ clips. All (λ clip. length clip.bytes ≤ most_sound_bytes) clips.items) }
     ensures files { D.files depot.new ≡ D.files depot.old }
     ensures closed { D.writing depot.new ≡ None }
     ensures cause { CountsFaults (D.faults depot.old) (D.faults depot.new) (stopped_by_depot result) }
@@ -99,9 +94,7 @@ pub(crate) fn read_sounds<D: Depot>(
         let file = resource.file.as_str();
         let clip = read_sound(alloc, depot, number as u32, total, file)?;
         total += clip.bytes().len() as u64;
-        if clips.push(clip).is_err() {
-            return Err(Status::OutOfMemory);
-        }
+        clips.push(clip)?;
     }
     Ok(clips)
 }
@@ -116,10 +109,10 @@ fn read_sound<D: Depot>(
     name: &str,
 ) -> Result<Clip, Status>
     requires closed { D.writing depot.old ≡ None }
-    requires total { total ≤ 134217728 }
+    requires total { total ≤ spec.most_total_bytes }
     ensures told { IfSome (D.files depot.old) (λ files. GivesBy (λ clip. clip.bytes) result (spec.sound_read number total name.now (get files name.now))) }
-    ensures size { IfOk result (λ clip. length clip.bytes ≤ 67108864) }
-    ensures sum { IfOk result (λ clip. total + length clip.bytes ≤ 134217728) }
+    ensures size { IfOk result (λ clip. length clip.bytes ≤ most_sound_bytes) }
+    ensures sum { IfOk result (λ clip. total + length clip.bytes ≤ spec.most_total_bytes) }
     ensures files { D.files depot.new ≡ D.files depot.old }
     ensures closed { D.writing depot.new ≡ None }
     ensures cause { CountsFaults (D.faults depot.old) (D.faults depot.new) (stopped_by_depot result) }
@@ -137,11 +130,11 @@ fn clip_of(
     name: &str,
     bytes: Vec<u8>,
 ) -> Result<Clip, Status>
-    requires total { total ≤ 134217728 }
-    requires length { length bytes.items ≤ 67108864 }
+    requires total { total ≤ spec.most_total_bytes }
+    requires length { length bytes.items ≤ most_sound_bytes }
     ensures value { GivesBy (λ clip. clip.bytes) result (spec.sound_of number total name.now bytes.items) }
-    ensures size { IfOk result (λ clip. length clip.bytes ≤ 67108864) }
-    ensures sum { IfOk result (λ clip. total + length clip.bytes ≤ 134217728) }
+    ensures size { IfOk result (λ clip. length clip.bytes ≤ most_sound_bytes) }
+    ensures sum { IfOk result (λ clip. total + length clip.bytes ≤ spec.most_total_bytes) }
     ensures no_fault { stopped_by_depot result ≡ false }
     ensures stop { can_stop result ≡ true }
 {

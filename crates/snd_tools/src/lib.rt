@@ -13,7 +13,6 @@ mod rendering;
 mod text_out;
 mod tool;
 mod words;
-mod writing;
 
 pub use disk_depot::DiskDepot;
 pub use snd_status::Status;

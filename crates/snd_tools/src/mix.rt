@@ -2,14 +2,13 @@ ghost use Rattle.std.specs.Prelude.{◌≡◌, true, None, Some, IfSome};
 ghost use Rattle.snd_io.specs.Faults.{CountsFaults, Rose};
 ghost use Rattle.snd_io.specs.Files.{Files};
 ghost use Rattle.snd_tools.specs.Meets.{Works};
-ghost use Rattle.snd_tools.specs.Outcome.{mix_outcome, rendered};
+ghost use Rattle.snd_tools.specs.Outcome.{comes_to, mix_outcome, rendered};
 ghost use Rattle.snd_tools.specs.Reading.{GivesBy, stopped_by_depot, can_stop};
 ghost use Rattle.snd_tools.specs.Rendered.{said_rendering};
 
 use crate::fetching::{read_scene, read_sounds};
 use crate::rendering::{Rendering, render};
-use crate::writing::write_file;
-use snd_io::{Depot, Put};
+use snd_io::{Depot, write_file};
 use snd_status::Status;
 use std::alloc::Global;
 use std::marker::Model;
@@ -23,20 +22,14 @@ pub(crate) fn mix<D: Depot>(
     out: &str,
 ) -> Result<String, Status>
     requires { D.writing depot.old ≡ None }
-    ensures told { (before : Files) → D.files depot.old ≡ Some before → (after : Files) × (D.files depot.new ≡ Some after) × Works (mix_outcome before scene.now out.now) before after (Rose (D.faults depot.old) (D.faults depot.new)) result }
+    ensures told { (before : Files) → D.files depot.old ≡ Some before → (after : Files) × (D.files depot.new ≡ Some after) × Works (comes_to (mix_outcome before scene.now out.now)) before after (Rose (D.faults depot.old) (D.faults depot.new)) result }
     ensures closed { D.writing depot.new ≡ None }
     ensures cause { CountsFaults (D.faults depot.old) (D.faults depot.new) (stopped_by_depot result) }
     ensures stop { can_stop result ≡ true }
 {
-    let rendering = match prepare(alloc, depot, scene) {
-        Ok(rendering) => rendering,
-        Err(status) => return Err(status),
-    };
-    match write_file(alloc, depot, out, rendering.file.bytes()) {
-        Put::Done => Ok(rendering.line),
-        Put::Failed => Err(Status::DepotFault),
-        Put::OutOfMemory => Err(Status::OutOfMemory),
-    }
+    let rendering = prepare(alloc, depot, scene)?;
+    write_file(alloc, depot, out, rendering.file.bytes())?;
+    Ok(rendering.line)
 }
 
 /// Reads SCENE and its sound files, and renders them. No file changes.
@@ -50,5 +43,5 @@ fn prepare<D: Depot>(alloc: Global, depot: &mut D, scene: &str) -> Result<Render
 {
     let scene = read_scene(alloc, depot, scene)?;
     let clips = read_sounds(alloc, depot, scene.resources.as_slice())?;
-    render(alloc, &scene, &clips).map_err(|_| Status::OutOfMemory)
+    Ok(render(alloc, &scene, &clips)?)
 }

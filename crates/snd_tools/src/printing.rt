@@ -1,8 +1,9 @@
-ghost use Rattle.std.specs.Prelude.{◌≡◌, ◌++◌, ℕ, List, IfOk, true, false, string_bytes, option_map};
+ghost use Rattle.std.specs.Prelude.{◌≡◌, ◌≤◌, ◌++◌, ℕ, List, IfOk, true, string_bytes, option_map};
 ghost use Rattle.snd_io.specs.Answers.{IsPrefix};
-ghost use Rattle.snd_io.specs.Faults.{CountsFaults, Rose};
+ghost use Rattle.snd_io.specs.Faults.{Rose};
+ghost use Rattle.snd_tools.specs.Counts.{CountsText};
 ghost use Rattle.snd_tools.specs.Outcome.{status_line};
-ghost use Rattle.snd_tools.specs.Printing.{Prints, PrintsOr, has_line, has_outcome_line, is_text_fault};
+ghost use Rattle.snd_tools.specs.Printing.{Prints, PrintsOr, has_line, has_outcome_line};
 
 use plain_data::OutOfMemory;
 use snd_io::{Put, Sink};
@@ -21,7 +22,7 @@ pub(crate) fn print_outcome<T: Sink>(
 ) -> Status
     requires { has_outcome_line came_to ≡ true }
     ensures prints { (added : List ℕ) × (T.written text.new ≡ option_map (λ t. t ++ added) (T.written text.old)) × Prints came_to added (Rose (T.faults text.old) (T.faults text.new)) result }
-    ensures cause { CountsFaults (T.faults text.old) (T.faults text.new) (is_text_fault result) }
+    ensures counts { CountsText (T.faults text.old) (T.faults text.new) result }
 {
     match came_to {
         Ok(line) => match text.write(alloc, line.as_bytes()) {
@@ -37,7 +38,7 @@ pub(crate) fn print_outcome<T: Sink>(
 fn print_status<T: Sink>(alloc: Global, text: &mut T, status: Status) -> Status
     requires { has_line status ≡ true }
     ensures prints { (added : List ℕ) × (T.written text.new ≡ option_map (λ t. t ++ added) (T.written text.old)) × PrintsOr status added (Rose (T.faults text.old) (T.faults text.new)) result }
-    ensures cause { CountsFaults (T.faults text.old) (T.faults text.new) (is_text_fault result) }
+    ensures counts { CountsText (T.faults text.old) (T.faults text.new) result }
 {
     let line = match status_line(alloc, &status) {
         Ok(line) => line,
@@ -53,7 +54,7 @@ fn print_status<T: Sink>(alloc: Global, text: &mut T, status: Status) -> Status
 fn print_out_of_memory<T: Sink>(alloc: Global, text: &mut T) -> Status
     ensures status { result ≡ Status.OutOfMemory }
     ensures prints { (added : List ℕ) × (T.written text.new ≡ option_map (λ t. t ++ added) (T.written text.old)) × IsPrefix added (status_line Status.OutOfMemory) }
-    ensures cause { CountsFaults (T.faults text.old) (T.faults text.new) false }
+    ensures later { T.faults text.old ≤ T.faults text.new }
 {
     text.write(alloc, OUT_OF_MEMORY_LINE.as_bytes());
     Status::OutOfMemory

@@ -1,4 +1,5 @@
 ghost use Rattle.std.specs.Prelude.{◌≡◌, ◌≤◌, IfOk, All, map, length, string_bytes};
+ghost use Rattle.clip_decode.specs.Limits.{most_sound_bytes};
 ghost use Rattle.mix_model.specs.Mix.{mix};
 ghost use Rattle.mix_model.specs.Output.{wav};
 ghost use Rattle.mix_model.specs.Rendering.{summary_of};
@@ -33,7 +34,7 @@ struct Mixed {
 /// Renders a scene with the sounds of its resources.
 pub(crate) fn render(alloc: Global, scene: &Scene, clips: &[Clip]) -> Result<Rendering, OutOfMemory>
     requires count { length clips.now ≡ length scene.now.resources }
-    requires sizes { All (λ clip. length clip.bytes ≤ 67108864) clips.now }
+    requires sizes { All (λ clip. length clip.bytes ≤ most_sound_bytes) clips.now }
     ensures { IfOk result (λ r. said_rendering r ≡ spec.rendering scene.now (mix scene.now (map (λ clip. clip.bytes) clips.now))) }
 {
     let mixed = mix_in_memory(alloc, scene, clips)?;
@@ -48,7 +49,7 @@ pub(crate) fn render(alloc: Global, scene: &Scene, clips: &[Clip]) -> Result<Ren
 /// Mixes a scene to its WAVE file. The sink in memory has no failure listed, so it doesn't fail.
 fn mix_in_memory(alloc: Global, scene: &Scene, clips: &[Clip]) -> Result<Mixed, OutOfMemory>
     requires count { length clips.now ≡ length scene.now.resources }
-    requires sizes { All (λ clip. length clip.bytes ≤ 67108864) clips.now }
+    requires sizes { All (λ clip. length clip.bytes ≤ most_sound_bytes) clips.now }
     ensures file { IfOk result (λ m. mem_text m.file ≡ wav scene.now (mix scene.now (map (λ clip. clip.bytes) clips.now))) }
     ensures summary { IfOk result (λ m. m.summary ≡ summary_of scene.now (mix scene.now (map (λ clip. clip.bytes) clips.now))) }
 {

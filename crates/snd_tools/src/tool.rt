@@ -1,10 +1,11 @@
 ghost use Rattle.std.specs.Prelude.{◌≡◌, ◌⊎◌, ◌++◌, ℕ, List, Err, None, Some, map, option_map, string_bytes, true};
 ghost use Rattle.snd_io.specs.Faults.{CountsFaults, Rose};
 ghost use Rattle.snd_io.specs.Files.{Files};
-ghost use Rattle.snd_tools.specs.Commands.{command};
+ghost use Rattle.snd_tools.specs.Commands.{Scenetool, command};
+ghost use Rattle.snd_tools.specs.Counts.{CountsDepot, CountsText};
 ghost use Rattle.snd_tools.specs.Meets.{Meets, Works};
 ghost use Rattle.snd_tools.specs.Outcome.{outcome};
-ghost use Rattle.snd_tools.specs.Printing.{has_outcome_line};
+ghost use Rattle.snd_tools.specs.Printing.{Tells, has_outcome_line};
 ghost use Rattle.snd_tools.specs.Reading.{stopped_by_depot};
 
 use crate::command::{Command, read_command};
@@ -31,16 +32,20 @@ pub fn run_tool<D: Depot, T: Sink>(
     requires { D.writing depot.old ≡ None }
 
     // Where the files are told, the status is that of the outcome, and the files and the text are as it says.
-    ensures told { (before : Files) → D.files depot.old ≡ Some before → (after : Files) × (added : List ℕ) × (D.files depot.new ≡ Some after) × (T.written text.new ≡ option_map (λ t. t ++ added) (T.written text.old)) × Meets (outcome (map string_bytes words.now) before) before after added (Rose (D.faults depot.old) (D.faults depot.new)) (Rose (T.faults text.old) (T.faults text.new)) result }
+    ensures told { (before : Files) → D.files depot.old ≡ Some before → (after : Files) × (added : List ℕ) × (D.files depot.new ≡ Some after) × (T.written text.new ≡ option_map (λ t. t ++ added) (T.written text.old)) × Meets (outcome Scenetool (map string_bytes words.now) before) before after added (Rose (D.faults depot.old) (D.faults depot.new)) (Rose (T.faults text.old) (T.faults text.new)) result }
 
     // Told or not: words that are no command are answered as such, unless there was no memory for the line, and
     // no others are.
-    ensures usage { (word : ℕ) → command (map string_bytes words.now) ≡ Err word → (D.files depot.new ≡ D.files depot.old) × ((result ≡ Status.Usage word) ⊎ (result ≡ Status.OutOfMemory)) }
-    ensures words { (word : ℕ) → result ≡ Status.Usage word → command (map string_bytes words.now) ≡ Err word }
+    ensures usage { (word : ℕ) → command Scenetool (map string_bytes words.now) ≡ Err word → (D.files depot.new ≡ D.files depot.old) × ((result ≡ Status.Usage word) ⊎ (result ≡ Status.OutOfMemory)) }
+    ensures words { (word : ℕ) → result ≡ Status.Usage word → command Scenetool (map string_bytes words.now) ≡ Err word }
 
-    // The depot and the text are said to have failed only where their counts rose, told or not.
-    ensures fault { result ≡ Status.DepotFault → Rose (D.faults depot.old) (D.faults depot.new) }
-    ensures text_fault { result ≡ Status.TextFault → Rose (T.faults text.old) (T.faults text.new) }
+    // Told of the files or not: the line of a refusal follows from the status.
+    ensures text { (added : List ℕ) × (T.written text.new ≡ option_map (λ t. t ++ added) (T.written text.old)) × Tells result added (Rose (T.faults text.old) (T.faults text.new)) }
+
+    // Told or not: the counts of faults never fall. The depot and the text are said to have failed only where they rose, and
+    // `Done` comes only where they are what they were.
+    ensures depot_count { CountsDepot (D.faults depot.old) (D.faults depot.new) result }
+    ensures text_count { CountsText (T.faults text.old) (T.faults text.new) result }
     ensures closed { D.writing depot.new ≡ None }
 {
     let came_to = carry_out(alloc, words, depot);
@@ -50,11 +55,11 @@ pub fn run_tool<D: Depot, T: Sink>(
 /// Does the work of a command on the files, and gives the line that is to be printed of it.
 fn carry_out<D: Depot>(alloc: Global, words: &[String], depot: &mut D) -> Result<String, Status>
     requires { D.writing depot.old ≡ None }
-    ensures told { (before : Files) → D.files depot.old ≡ Some before → (after : Files) × (D.files depot.new ≡ Some after) × Works (outcome (map string_bytes words.now) before) before after (Rose (D.faults depot.old) (D.faults depot.new)) result }
+    ensures told { (before : Files) → D.files depot.old ≡ Some before → (after : Files) × (D.files depot.new ≡ Some after) × Works (outcome Scenetool (map string_bytes words.now) before) before after (Rose (D.faults depot.old) (D.faults depot.new)) result }
     ensures closed { D.writing depot.new ≡ None }
     ensures cause { CountsFaults (D.faults depot.old) (D.faults depot.new) (stopped_by_depot result) }
-    ensures usage { (word : ℕ) → command (map string_bytes words.now) ≡ Err word → (result ≡ Err (Status.Usage word)) × (D.files depot.new ≡ D.files depot.old) }
-    ensures words { (word : ℕ) → result ≡ Err (Status.Usage word) → command (map string_bytes words.now) ≡ Err word }
+    ensures usage { (word : ℕ) → command Scenetool (map string_bytes words.now) ≡ Err word → (result ≡ Err (Status.Usage word)) × (D.files depot.new ≡ D.files depot.old) }
+    ensures words { (word : ℕ) → result ≡ Err (Status.Usage word) → command Scenetool (map string_bytes words.now) ≡ Err word }
     ensures line { has_outcome_line result ≡ true }
 {
     match read_command(words) {

@@ -7,8 +7,11 @@ const MAX_PATH_BYTES: usize = 255;
 /// The most bytes of the names that generated files begin with.
 const MAX_PREFIX_BYTES: usize = 64;
 
-/// The most digits of a number.
-const MAX_DIGITS: usize = 10;
+/// The most digits of NUMBER of `gen`.
+pub(crate) const MAX_NUMBER_DIGITS: usize = 10;
+
+/// The greatest NUMBER of `gen`.
+pub(crate) const MAX_NUMBER: u32 = 4_294_967_295;
 
 pub(crate) fn is_path(word: &str) -> bool
     ensures { result ≡ spec.is_path word.now }
@@ -35,27 +38,23 @@ fn is_prefix_byte(byte: u8) -> bool
     byte.is_ascii_alphanumeric() || matches!(byte, b'_' | b'-' | b'.' | b'/')
 }
 
-/// The number of a word of 1 to 10 digits with no leading zero, which is at most 4294967295.
-pub(crate) fn read_number(word: &str) -> Option<u32>
-    ensures { result ≡ spec.number word.now }
+/// The number of a word of 1 to `digits` digits, leading zeros among them, if it is at most `limit`.
+pub(crate) fn read_number(word: &str, digits: usize, limit: u32) -> Option<u32>
+    ensures { result ≡ spec.number digits limit word.now }
 {
-    if is_numeral(word) {
-        word.parse().ok()
-    } else {
-        None
+    if !is_numeral(word, digits) {
+        return None;
+    }
+    match word.parse::<u32>() {
+        Ok(number) if number <= limit => Some(number),
+        _ => None,
     }
 }
 
-fn is_numeral(word: &str) -> bool
-    ensures { result ≡ spec.is_numeral word.now }
+fn is_numeral(word: &str, digits: usize) -> bool
+    ensures { result ≡ spec.is_numeral digits word.now }
 {
-    1 <= word.len() && word.len() <= MAX_DIGITS && has_only_digits(word) && !has_leading_zero(word)
-}
-
-fn has_leading_zero(word: &str) -> bool
-    ensures { result ≡ spec.has_leading_zero word.now }
-{
-    matches!(word.as_bytes(), [b'0', _, ..])
+    1 <= word.len() && word.len() <= digits && has_only_digits(word)
 }
 
 fn has_only_digits(word: &str) -> bool

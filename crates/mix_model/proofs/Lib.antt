@@ -4,6 +4,7 @@ pub mod Deepening
 pub mod DueEdits
 pub mod Frames
 pub mod HeadersRead
+pub mod Heard
 pub mod Inputs
 pub mod Iterating
 pub mod Marks
@@ -13,6 +14,7 @@ pub mod Ranks
 pub mod RoundTrip
 pub mod SceneLaws
 pub mod ScenePlans
+pub mod Spans
 pub mod Starting
 pub mod Sums
 pub mod Totals

@@ -8,8 +8,9 @@ pub mod OrderedBuses
 pub mod Output
 pub mod Playing
 pub mod Pulled
+pub mod ReadBack
 pub mod Rendering
 pub mod Signals
 pub mod Sizes
+pub mod Spans
 pub mod Summary
-pub mod ReadBack

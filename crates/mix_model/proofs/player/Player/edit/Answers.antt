@@ -8,7 +8,7 @@ use Rattle.scene_model.specs.Plans.{after}
 use Rattle.scene_model.specs.Reach.{HasNoCycle}
 use Rattle.mix_model.specs.Due.{due, IsNext, CanMakeAll}
 use Rattle.mix_model.proofs.Frames.{edits_in_order, plan_due, cursor_due, nothing_due}
-use Rattle.mix_model.proofs.ScenePlans.{nodes_before, buses_most, within_most}
+use Rattle.mix_model.proofs.ScenePlans.{nodes_before, within_most}
 use Rattle.mix_model.proofs.player.Player.edit.Goals as goal
 
 pub make_due-place-requires-clause-order : goal.make_due-place-requires-clause-order
@@ -29,13 +29,7 @@ pub topological_order-requires-clause-buses : goal.topological_order-requires-cl
 topological_order-requires-clause-buses c = rw c.buses.ensures.value (within_most c.make_due-place.new.plan c.buses.ensures.plan)
 
 pub topological_order-requires-clause-most : goal.topological_order-requires-clause-most
-topological_order-requires-clause-most c =
-    let s = c.args.scene.now in
-    let t = c.args.self.now.time in
-    let before = c.requires.before in
-    let edits = c.as_slice-edits.result.now in
-    let is = plan_due s edits t c.args.self.now.plan c.make_due-place.new.plan (c.as_slice-edits.ensures ∙ before.player.edits_are) before.plan_is c.make_due-place.ensures.plan in
-    rw (c.buses.ensures.value, is) (buses_most s t before.player.scene_is)
+topological_order-requires-clause-most c = rw c.buses.ensures.value c.buses.ensures.plan.buses_most
 
 pub returns-in_ok-self-clause-at : goal.returns-in_ok-self-clause-at
 returns-in_ok-self-clause-at c =

@@ -1,25 +1,23 @@
-use Rattle.std.proofs.Common.{arith, sym, ◌∙◌, ap, subst, rules, ◌≡◌, ◌≤◌, ℕ, pos, List, length, get_or, FitsSigned, w32, w64, to_z, of_z}
+use Rattle.std.proofs.Common.{arith, sym, ◌∙◌, ap, subst, rules, ◌≡◌, ℕ, pos, List, length, get_or, FitsSigned, w32, w64, to_z, of_z}
 use Rattle.std.specs.Prelude.{slice_index}
 use Rattle.std.specs.List.Sorted.{IsPermutation}
 use Rattle.std.proofs.lemmas.Int.{ints}
 use Rattle.mix_fixed.specs.Sound.{sat24}
 use Rattle.scene_model.specs.declared.bus.Bus.{Bus}
 use Rattle.scene_model.specs.declared.node_state.NodeState.{NodeState}
-use Rattle.scene_model.specs.Limits as limits
 use Rattle.scene_model.specs.PlanData.{PlanData}
 use Rattle.scene_model.specs.Times.{plan}
 use Rattle.mix_model.specs.Mix.{cursor, frame_state}
 use Rattle.mix_model.specs.Signals.{input}
 use Rattle.mix_model.specs.OrderedBuses.{AreOrderedBuses, frame_state_of}
 use Rattle.mix_model.proofs.Frames.{input_is, frame_more}
-use Rattle.mix_model.proofs.ScenePlans.{ordered_buses_are, buses_most}
+use Rattle.mix_model.proofs.ScenePlans.{ordered_buses_are}
 use Rattle.mix_model.proofs.player.Player.sound.Goals as goal
 
 pub inputs-requires-clause-ordered_buses : goal.inputs-requires-clause-ordered_buses
 inputs-requires-clause-ordered_buses c =
     let p = c.args.self.now.plan in
-    let most : length p.buses ≤ limits.most_buses = rw c.requires.plan_is (buses_most c.args.scene.now c.args.self.now.time c.requires.player.scene_is) in
-    let are : AreOrderedBuses (length p.nodes) c.args.self.now.ordered_buses.items = ordered_buses_are p c.args.self.now.ordered_buses.items c.nodes-nodes.ensures.plan most c.requires.permutation c.requires.ordered in
+    let are : AreOrderedBuses (length p.nodes) c.args.self.now.ordered_buses.items = ordered_buses_are p c.args.self.now.ordered_buses.items c.nodes-nodes.ensures.plan c.requires.permutation c.requires.ordered in
     rw (c.nodes-nodes.ensures.value, c.as_slice-ordered_buses.ensures.value) are
 
 pub loop-channel-preserved : goal.loop-channel-preserved

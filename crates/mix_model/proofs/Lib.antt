@@ -8,6 +8,7 @@ pub mod Heard
 pub mod Inputs
 pub mod Iterating
 pub mod Marks
+pub mod Moments
 pub mod PackedSamples
 pub mod Pulls
 pub mod Ranks

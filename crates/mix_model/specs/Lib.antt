@@ -4,6 +4,7 @@ pub mod FaultText
 pub mod Iteration
 pub mod Laws
 pub mod Mix
+pub mod Moments
 pub mod OrderedBuses
 pub mod Output
 pub mod Playing

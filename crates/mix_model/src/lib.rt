@@ -42,7 +42,7 @@ pub use order::{MAX_INPUTS, depths, topological_order};
 pub use pull::{is_active, mark_pulled};
 pub use rendering::plain_mix;
 pub use span_laws::{
-    a_sound_plays_on, frames_can_be_split, frames_go_on_between_edits,
+    a_sound_plays_on, frames_can_be_split, frames_go_on_between_edits, moments_follow_one_another,
     no_edit_falls_before_the_next, pulls_stay_between_times,
 };
 pub use summary::Summary;

@@ -1,14 +1,18 @@
 //! Laws of frames that follow one another, for a renderer that computes many of them at a time. The
 //! functions do nothing.
 
-ghost use Rattle.std.specs.Prelude.{◌≡◌, ◌<◌, ◌≤◌, ◌+◌, ◌%◌, ◌++◌, ℕ, suc, Bool, true, false, List, length, if◌then◌else◌};
+ghost use Rattle.std.specs.Prelude.{◌≡◌, ◌<◌, ◌≤◌, ◌+◌, ◌%◌, ◌++◌, ℕ, suc, Bool, true, false, List, drop, fold, length, slice_index, if◌then◌else◌};
 ghost use Rattle.scene_clips.specs.SceneClipData.{SceneClipData};
+ghost use Rattle.scene_model.specs.IsScene.{IsScene};
+ghost use Rattle.scene_model.specs.Opening.{opening};
 ghost use Rattle.scene_model.specs.Order.{in_order};
 ghost use Rattle.scene_model.specs.PlanData.{PlanData};
+ghost use Rattle.scene_model.specs.Plans.{after};
 ghost use Rattle.scene_model.specs.SceneData.{SceneData};
 ghost use Rattle.scene_model.specs.Times.{plan_before, plan};
-ghost use Rattle.mix_model.specs.Due.{IsNext, frame_at};
-ghost use Rattle.mix_model.specs.Mix.{node_frames, cursor_before, cursor, frame_state, frames_from};
+ghost use Rattle.mix_model.specs.Due.{due, frame_at, IsNext, AreInOrder, CanMakeAll};
+ghost use Rattle.mix_model.specs.Mix.{node_frames, cursor_after_edit, next_cursor, cursor_before, cursor, frame_state, frames_from};
+ghost use Rattle.mix_model.specs.Moments.{Moment, IsBeforeEdits, IsAfterEdits};
 ghost use Rattle.mix_model.specs.Pulled.{node, pulled};
 ghost use Rattle.mix_model.specs.Spans.{cursor_on, state_on, IsQuiet, IsSteady, AreApart, played, cursor_in};
 
@@ -62,4 +66,31 @@ pub fn a_sound_plays_on()
     ensures ended { (frames i : ℕ) → played frames false frames i ≡ frames }
     ensures again { (frames : ℕ) → played frames true frames 1 ≡ 0 }
     ensures around { (frames i : ℕ) → 0 < frames → played frames true 0 i ≡ i % frames }
+{}
+
+/// A law: a scene goes on from moment to moment. It begins before the edits of frame 0, with its opening
+/// plan and each cursor at 0, and its edits are in order and can all be made. The edits of a frame lead
+/// to the moment after them, and a frame to the moment before the edits of the next one. Where no edit
+/// falls on the frames after the first, so do that many frames at once.
+pub fn moments_follow_one_another()
+    ensures begins { (clips : List SceneClipData) (s : SceneData) (cursors : List ℕ) → IsScene s →
+        ((n : ℕ) → slice_index cursors n ≡ 0) →
+        IsBeforeEdits clips s (record { plan = opening s; time = 0; place = 0; cursors = cursors }) }
+    ensures order { (s : SceneData) → AreInOrder (in_order s.edits) }
+    ensures edits { (clips : List SceneClipData) (s : SceneData) (m : Moment) (frames : List ℕ) (p : PlanData) (place : ℕ) (cursors : List ℕ) →
+        IsBeforeEdits clips s m → ((n : ℕ) → slice_index frames n ≡ node_frames clips s n) →
+        IsNext (in_order s.edits) (m.time + 1) place →
+        p ≡ fold after m.plan (due (in_order s.edits) m.time) →
+        CanMakeAll p (drop place (in_order s.edits)) →
+        ((n : ℕ) → slice_index cursors n
+        ≡ fold (cursor_after_edit n (slice_index frames n)) (slice_index m.cursors n) (due (in_order s.edits) m.time)) →
+        IsAfterEdits clips s (record { plan = p; time = m.time; place = place; cursors = cursors }) }
+    ensures frame { (clips : List SceneClipData) (s : SceneData) (m : Moment) (cursors : List ℕ) → IsAfterEdits clips s m →
+        ((n : ℕ) → slice_index cursors n ≡ next_cursor m.plan m.time n (node_frames clips s n) (slice_index m.cursors n)) →
+        IsBeforeEdits clips s (record { plan = m.plan; time = m.time + 1; place = m.place; cursors = cursors }) }
+    ensures frames { (clips : List SceneClipData) (s : SceneData) (m : Moment) (count : ℕ) (cursors : List ℕ) → IsAfterEdits clips s m →
+        ((k : ℕ) → m.place ≤ k → k < length (in_order s.edits) → m.time + suc count ≤ frame_at (in_order s.edits) k) →
+        ((n : ℕ) → slice_index cursors n
+        ≡ cursor_on m.plan m.time n (node_frames clips s n) (slice_index m.cursors n) (suc count)) →
+        IsBeforeEdits clips s (record { plan = m.plan; time = m.time + suc count; place = m.place; cursors = cursors }) }
 {}

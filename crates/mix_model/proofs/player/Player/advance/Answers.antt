@@ -21,17 +21,19 @@ returns-clause-before c =
     let p = c.args.self.now in
     let at = c.requires in
     let nodes = c.nodes-nodes.result.now in
-    let count = ap (λ (q : PlanData). length q.nodes) at.plan_is ∙ nodes_at s p.time in
+    let count = ap (λ (q : PlanData). length q.nodes) at.moment.plan_is ∙ nodes_at s p.time in
     let frames_are : (n : ℕ) → slice_index c.as_slice-2.result.now n ≡ node_frames p.clips.items s n = λ n. ap (λ (xs : List ℕ). slice_index xs n) c.as_slice-2.ensures ∙ at.player.frames_are n in
-    let cursors_are : (n : ℕ) → slice_index c.as_mut_slice-2.result.now n ≡ cursor p.clips.items s n p.time = λ n. ap (λ (xs : List ℕ). slice_index xs n) c.as_mut_slice-2.ensures.value ∙ at.cursors_are n in
+    let cursors_are : (n : ℕ) → slice_index c.as_mut_slice-2.result.now n ≡ cursor p.clips.items s n p.time = λ n. ap (λ (xs : List ℕ). slice_index xs n) c.as_mut_slice-2.ensures.value ∙ at.moment.cursors_are n in
     let moves : IsPermutation p.plan.buses c.as_slice.result.now = subst (λ (bs : List Bus). IsPermutation p.plan.buses bs) (sym c.as_slice.ensures.value) at.permutation in
     record {
       player = record { scene_is = at.player.scene_is; edits_are = at.player.edits_are; channels_are = at.player.channels_are; frames_are = at.player.frames_are };
       time_most = omega arith;
-      plan_is = at.plan_is ∙ plan_more s p.time;
-      cursors_are = λ n. cursor_next s p.clips.items p.time n p.plan nodes c.as_slice.result.now c.mark_pulled.new.marks c.as_slice-2.result.now c.as_mut_slice-2.result.now c.advance_cursors.new.cursors c.nodes-nodes.ensures.value at.plan_is moves count (frames_are n) (cursors_are n) c.mark_pulled.ensures (c.advance_cursors.ensures.moved n) (c.advance_cursors.ensures.rest n);
-      next = at.next;
-      can = at.can;
+      moment = record {
+        plan_is = at.moment.plan_is ∙ plan_more s p.time;
+        cursors_are = λ n. cursor_next s p.clips.items p.time n p.plan nodes c.as_slice.result.now c.mark_pulled.new.marks c.as_slice-2.result.now c.as_mut_slice-2.result.now c.advance_cursors.new.cursors c.nodes-nodes.ensures.value at.moment.plan_is moves count (frames_are n) (cursors_are n) c.mark_pulled.ensures (c.advance_cursors.ensures.moved n) (c.advance_cursors.ensures.rest n);
+        next = at.moment.next;
+        can = at.moment.can;
+      };
       permutation = at.permutation;
       ordered = at.ordered;
     }

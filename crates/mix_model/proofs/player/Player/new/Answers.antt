@@ -10,7 +10,8 @@ use Rattle.scene_model.specs.SceneData.{SceneData}
 use Rattle.scene_clips.specs.SceneClipData.{SceneClipData}
 use Rattle.mix_model.specs.Mix.{node_frames}
 use Rattle.mix_model.proofs.Deepening.{zeros_at}
-use Rattle.mix_model.proofs.Starting.{plan_start, cursor_start, next_start, can_start, channels_start}
+use Rattle.mix_model.proofs.Moments.{moment_start}
+use Rattle.mix_model.proofs.Starting.{channels_start}
 use Rattle.mix_model.proofs.player.Player.new.Goals as goal
 
 pub topological_order-requires-clause-no_cycle : goal.topological_order-requires-clause-no_cycle
@@ -34,10 +35,7 @@ returns-clause-before c =
         frames_are = λ n. c.clip_lengths-frames.ensures n ∙ ap (λ (cs : List SceneClipData). node_frames cs s n) c.as_slice-2.ensures.value;
       };
       time_most = omega arith;
-      plan_is = c.in_ok-plan.ensures ∙ sym (plan_start s);
-      cursors_are = λ n. zeros_at _ (limits.most_nodes + 1) n refl ∙ sym (cursor_start clips s n);
-      next = next_start c.in_ok-edits.edits;
-      can = rw c.in_ok-plan.ensures (can_start s c.in_ok-edits.edits is edits_are);
+      moment = rw c.in_ok-plan.ensures (moment_start clips s _ is (λ n. zeros_at _ (limits.most_nodes + 1) n refl));
       permutation = subst (λ (bs : List Bus). IsPermutation bs c.in_ok-ordered_buses.ordered_buses.items) c.buses.ensures.value c.in_ok-ordered_buses.ensures.permutation;
       ordered = c.in_ok-ordered_buses.ensures.ordered;
     }

@@ -33,12 +33,12 @@ loop-channel-preserved c =
     let whole : to_z w64 (of_z w64 z) ≡ z = omega (arith, ints) in
     let range = c.sat24.ensures.range in
     let kept : to_z w32 (of_z w32 c.sat24.result) ≡ c.sat24.result = omega (arith, ints) in
-    let nodes_are : nodes ≡ (plan s t).nodes = c.nodes-nodes.ensures.value ∙ ap (λ (q : PlanData). q.nodes) c.requires.plan_is in
+    let nodes_are : nodes ≡ (plan s t).nodes = c.nodes-nodes.ensures.value ∙ ap (λ (q : PlanData). q.nodes) c.requires.moment.plan_is in
     let moves : IsPermutation p.plan.buses c.as_slice-ordered_buses.result.now = subst (λ (bs : List Bus). IsPermutation p.plan.buses bs) (sym c.as_slice-ordered_buses.ensures.value) c.requires.permutation in
-    let cursors_are : (n : ℕ) → slice_index c.as_slice-cursors.result.now n ≡ cursor p.clips.items s n t = λ n. ap (λ (xs : List ℕ). slice_index xs n) c.as_slice-cursors.ensures ∙ c.requires.cursors_are n in
+    let cursors_are : (n : ℕ) → slice_index c.as_slice-cursors.result.now n ≡ cursor p.clips.items s n t = λ n. ap (λ (xs : List ℕ). slice_index xs n) c.as_slice-cursors.ensures ∙ c.requires.moment.cursors_are n in
     let value =
     c.sat24.ensures.nearest ∙ ap sat24 whole ∙ c.inputs.ensures (length nodes) (omega arith)
     ∙ ap (λ cs. input (frame_state_of nodes c.as_slice-ordered_buses.result.now t cs c.as_slice-cursors.result.now) channel (length nodes)) c.as_slice-clips.ensures.value
-    ∙ input_is s p.clips.items t p.plan nodes c.as_slice-ordered_buses.result.now c.as_slice-cursors.result.now channel (length nodes) c.nodes-nodes.ensures.value c.requires.plan_is moves cursors_are
+    ∙ input_is s p.clips.items t p.plan nodes c.as_slice-ordered_buses.result.now c.as_slice-cursors.result.now channel (length nodes) c.nodes-nodes.ensures.value c.requires.moment.plan_is moves cursors_are
     ∙ ap (λ (ns : List NodeState). input m channel (length ns)) nodes_are in
     frame_more m channel c.loop-channel.samples.items c.args.samples.now.items c.push.new.self.items c.sat24.result _ c.loop-channel.invariant c.in_ok-push.ensures.items kept value

@@ -46,7 +46,7 @@ once_more frames t = by_test (nat_lt (min t frames + 1) frames) refl
     by_test true is = let less = ltb-true (min t frames + 1) frames is in omega arith
     by_test false is = let least = ltb-false (min t frames + 1) frames is in omega arith
 
-around : (frames t : ℕ) → 0 < frames → next_frame frames true (t % frames) ≡ suc t % frames
+pub around : (frames t : ℕ) → 0 < frames → next_frame frames true (t % frames) ≡ suc t % frames
 around frames t some = by_test (nat_lt (t % frames + 1) frames) refl
   where
     by_test : (b : Bool) → nat_lt (t % frames + 1) frames ≡ b → (if b then t % frames + 1 else 0) ≡ suc t % frames

@@ -8,8 +8,9 @@ use Rattle.std.proofs.Math.ListN.{get_or-eq_default}
 use Rattle.std.proofs.lemmas.List.Sorted.{All-permutation}
 use Rattle.std.proofs.lemmas.List.Sums.{sum_by-set, sum_by-le}
 use Rattle.scene_model.specs.declared.bus.Bus.{Bus}
+use Rattle.scene_model.specs.Limits as limits
 use Rattle.scene_model.specs.Reach.{HasNoCycle}
-use Rattle.mix_model.specs.Depths.{Rises, AllRise, depth_at, AreAtMost, StaysBelow, IsDeeper}
+use Rattle.mix_model.specs.Depths.{Rises, AllRise, depth_at, AreAtMost, AreLeast, StaysBelow, IsDeeper}
 use Rattle.mix_model.specs.OrderedBuses.{no_bus, IsOrdered}
 use Rattle.mix_model.proofs.Ranks.{ranked}
 
@@ -32,13 +33,13 @@ set_below number old to n v false e within le was =
 -- the state of a pass: the depths at its start and now, and whether one was raised
 pub record IsPass (buses : List Bus) (i : ℕ) (old new : List ℕ) (is_deeper : Bool) : Type 0 where
   pub kept : StaysBelow buses old new
-  pub within : AreAtMost (256 + i) new
+  pub within : AreAtMost (limits.most_buses + i) new
   pub least : sum old ≤ sum new
   pub deeper : is_deeper ≡ true → sum old < sum new
   pub same : is_deeper ≡ false → new ≡ old
   pub settled : is_deeper ≡ false → (k : ℕ) (d : Bus) → k < i → k < length buses → Rises (depth_at old) (get_or buses k d)
 
-pub pass_start : (buses : List Bus) (old : List ℕ) → AreAtMost 256 old → IsPass buses 0 old old false
+pub pass_start : (buses : List Bus) (old : List ℕ) → AreAtMost limits.most_buses old → IsPass buses 0 old old false
 pass_start buses old within = record {
   kept = λ number rise was. was;
   within = λ n. omega (arith, within n);
@@ -65,7 +66,7 @@ pass_deeper buses i old now new d is_deeper short from_within to_within pass ste
       within = λ n.
           let at_node = pass.within b.node in
           let here = pass.within n in
-          rw step.new_is (set_below (λ k. 256 + (i + 1)) now step.to n (depth_at now b.node + 1) (eqb step.to n) refl inside (omega arith) (omega arith));
+          rw step.new_is (set_below (λ k. limits.most_buses + (i + 1)) now step.to n (depth_at now b.node + 1) (eqb step.to n) refl inside (omega arith) (omega arith));
       least = omega arith;
       deeper = λ e. omega arith;
       same = λ e. cc;
@@ -96,22 +97,18 @@ pub pass_end : (buses : List Bus) (i : ℕ) (old new : List ℕ) → length buse
 pass_end buses i old new whole pass =
     subst (λ (xs : List ℕ). AllRise (depth_at xs) buses) (sym (pass.same refl)) (λ k d inside. pass.settled refl k d (omega arith) inside)
 
--- depths stay below each number that rises, so their sum has a bound
-abbrev pub IsBelowAll : List Bus → List ℕ → Type 0
-IsBelowAll buses depths = (number : ℕ → ℕ) → AllRise number buses → (n : ℕ) → depth_at depths n ≤ number n
-
-rank_of : (buses : List Bus) → HasNoCycle buses → length buses ≤ 256 → (rank : ℕ → ℕ) × AllRise rank buses × ((n : ℕ) → rank n ≤ 256)
+rank_of : (buses : List Bus) → HasNoCycle buses → length buses ≤ limits.most_buses → (rank : ℕ → ℕ) × AllRise rank buses × ((n : ℕ) → rank n ≤ limits.most_buses)
 rank_of buses none few =
     let r = ranked buses none in
     (r.0, λ k d inside. r.1.rises (get_or buses k d) (k, inside, get_or_default buses k (get_or buses k d) d inside), λ n. omega (arith, r.1.bounded n, few))
 
-pub depths_most : (buses : List Bus) (depths : List ℕ) → HasNoCycle buses → length buses ≤ 256 → IsBelowAll buses depths → AreAtMost 256 depths
+pub depths_most : (buses : List Bus) (depths : List ℕ) → HasNoCycle buses → length buses ≤ limits.most_buses → AreLeast buses depths → AreAtMost limits.most_buses depths
 depths_most buses depths none few below n =
     let r = rank_of buses none few in
     omega (arith, below r.0 r.1 n, r.2 n)
 
-pub sum_most : (depths : List ℕ) → AreAtMost 256 depths → sum depths ≤ length depths * 256
-sum_most depths most = sum_by-le (λ x. x) 256 depths (λ k d inside. rw (get_or_default depths k d 0 inside) (most k))
+pub sum_most : (depths : List ℕ) → AreAtMost limits.most_buses depths → sum depths ≤ length depths * limits.most_buses
+sum_most depths most = sum_by-le (λ x. x) limits.most_buses depths (λ k d inside. rw (get_or_default depths k d 0 inside) (most k))
 
 -- an order by depth
 pub ordered_by_depth : (depths : List ℕ) (buses ordered_buses : List Bus) → AllRise (depth_at depths) buses → IsPermutation buses ordered_buses → IsNonDecreasingBy (λ (b : Bus). depth_at depths b.node) ordered_buses → IsOrdered ordered_buses

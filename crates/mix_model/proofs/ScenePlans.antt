@@ -1,26 +1,20 @@
--- The plans of a scene keep the numbers of its nodes and buses, and a plan's buses may be taken in any order.
-use Rattle.std.proofs.Common.{◌≡◌, ℕ, zero, suc, ◌+◌, ◌<◌, ◌≤◌, List, [], ◌∷◌, length, get_or, refl, sym, ◌∙◌, ap, arith}
+-- The plans of a scene keep the number of its nodes, and a plan's buses may be taken in any order.
+use Rattle.std.proofs.Common.{◌≡◌, ℕ, zero, suc, ◌<◌, ◌≤◌, List, [], ◌∷◌, length, get_or, refl, ◌∙◌, arith}
 use Rattle.std.specs.Prelude.{fold}
 use Rattle.std.specs.List.Sorted.{IsPermutation}
-use Rattle.std.proofs.lemmas.List.{length-map, length-append}
-use Rattle.std.proofs.lemmas.List.FromFn.{length-map-range_with_len}
+use Rattle.std.proofs.lemmas.List.{length-map}
 use Rattle.std.proofs.lemmas.List.Sorted.{IsPermutation-sym, All-permutation, Contains-permutation, length_permutation}
-use Rattle.std.proofs.lemmas.List.Sums.{sum_by-cons}
 use Rattle.scene_model.specs.declared.bus.Bus.{Bus}
 use Rattle.scene_model.specs.declared.bus_row.BusRow.{BusRow}
 use Rattle.scene_model.specs.declared.edit.Edit.{Edit}
-use Rattle.scene_model.specs.declared.node.Node.{Node}
-use Rattle.scene_model.specs.Buses.{outputs, bus_count}
-use Rattle.scene_model.specs.IsPlan.{IsBusOf, IsPlan, output_of}
-use Rattle.scene_model.specs.IsScene.{IsScene}
+use Rattle.scene_model.specs.IsPlan.{IsBusOf, IsPlan}
 use Rattle.scene_model.specs.Limits as limits
-use Rattle.scene_model.specs.Opening.{state_of, unattached, all_outputs, unwired, row_edits, after_row}
+use Rattle.scene_model.specs.Opening.{state_of, unwired, after_row}
 use Rattle.scene_model.specs.PlanData.{PlanData}
 use Rattle.scene_model.specs.Plans.{after}
 use Rattle.scene_model.specs.Reach.{Path, HasNoCycle}
 use Rattle.scene_model.specs.SceneData.{SceneData}
 use Rattle.scene_model.specs.Times.{edits_at, plan_before, plan}
-use Rattle.scene_model.proofs.Kept.{outputs_after}
 use Rattle.scene_model.proofs.PlanStays.{length-after, length-after_row}
 use Rattle.mix_model.specs.OrderedBuses.{IsOrdered, AreOrderedBuses}
 
@@ -42,37 +36,6 @@ nodes_before s (suc t) = nodes_run (plan_before s t) (edits_at s.edits t) ∙ no
 pub nodes_at : (s : SceneData) (t : ℕ) → length (plan s t).nodes ≡ length s.nodes
 nodes_at s t = nodes_run (plan_before s t) (edits_at s.edits t) ∙ nodes_before s t
 
--- ---- buses
-
-buses_after : (p : PlanData) (e : Edit) → length (after p e).buses ≡ length p.buses
-buses_after p e = sym (length-map (after p e).buses output_of) ∙ ap length (outputs_after p e) ∙ length-map p.buses output_of
-
-buses_run : (p : PlanData) (es : List Edit) → length (fold after p es).buses ≡ length p.buses
-buses_run p [] = refl
-buses_run p (e ∷ es) = buses_run (after p e) es ∙ buses_after p e
-
-buses_rows : (p : PlanData) (rows : List BusRow) → length (fold after_row p rows).buses ≡ length p.buses
-buses_rows p [] = refl
-buses_rows p (b ∷ rows) = buses_rows (after_row p b) rows ∙ buses_run p (row_edits b)
-
-buses_unwired : (first : ℕ) (nodes : List Node) → length (all_outputs first nodes) ≡ bus_count nodes
-buses_unwired first [] = refl
-buses_unwired first (n ∷ nodes) =
-    let rest = buses_unwired (suc first) nodes in
-    let here = length-map-range_with_len (unattached first) 0 (outputs n.kind) in
-    rw (length-append, here, sum_by-cons (λ (x : Node). outputs x.kind) n nodes) (ap (λ k. outputs n.kind + k) rest)
-
-buses_before : (s : SceneData) (t : ℕ) → length (plan_before s t).buses ≡ bus_count s.nodes
-unfolding plan_before
-buses_before s zero = buses_rows (unwired s.nodes) s.buses ∙ buses_unwired 0 s.nodes
-buses_before s (suc t) = buses_run (plan_before s t) (edits_at s.edits t) ∙ buses_before s t
-
-pub buses_most_before : (s : SceneData) (t : ℕ) → IsScene s → length (plan_before s t).buses ≤ limits.most_buses
-buses_most_before s t is = rw (buses_before s t) is.outputs_most
-
-pub buses_most : (s : SceneData) (t : ℕ) → IsScene s → length (plan s t).buses ≤ limits.most_buses
-buses_most s t is = rw (buses_run (plan_before s t) (edits_at s.edits t), buses_before s t) is.outputs_most
-
 -- ---- an order of a plan's buses
 
 path_moved : (buses ordered_buses : List Bus) → IsPermutation ordered_buses buses → (path : List Bus) (a b : ℕ) → Path ordered_buses a path b → Path buses a path b
@@ -83,13 +46,13 @@ path_moved buses ordered_buses moved (x ∷ path) a b (next, step, rest) =
 no_cycle_moved : (buses ordered_buses : List Bus) → IsPermutation buses ordered_buses → HasNoCycle buses → HasNoCycle ordered_buses
 no_cycle_moved buses ordered_buses moved none n b path way = none n b path (path_moved buses ordered_buses (IsPermutation-sym buses ordered_buses moved) (b ∷ path) n n way)
 
-pub ordered_buses_are : (p : PlanData) (ordered_buses : List Bus) → IsPlan p → length p.buses ≤ limits.most_buses → IsPermutation p.buses ordered_buses → IsOrdered ordered_buses → AreOrderedBuses (length p.nodes) ordered_buses
-ordered_buses_are p ordered_buses is most moved ordered = record {
+pub ordered_buses_are : (p : PlanData) (ordered_buses : List Bus) → IsPlan p → IsPermutation p.buses ordered_buses → IsOrdered ordered_buses → AreOrderedBuses (length p.nodes) ordered_buses
+ordered_buses_are p ordered_buses is moved ordered = record {
   ordered = ordered;
   no_cycle = no_cycle_moved p.buses ordered_buses moved is.no_cycle;
   buses_are = All-permutation (IsBusOf (length p.nodes)) p.buses ordered_buses moved is.buses_are;
   gains_most = All-permutation (λ (b : Bus). b.gain ≤ limits.most_gain) p.buses ordered_buses moved is.gains_most;
-  buses_most = rw (length_permutation p.buses ordered_buses moved) most;
+  buses_most = rw (length_permutation p.buses ordered_buses moved) is.buses_most;
 }
 
 pub within_most : (p : PlanData) → IsPlan p → (k : ℕ) (d : Bus) → k < length p.buses → IsBusOf limits.most_nodes (get_or p.buses k d)

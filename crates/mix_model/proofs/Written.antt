@@ -27,13 +27,15 @@ use Rattle.mix_model.specs.Iteration.{iterate}
 
 -- ---- frames that follow one another
 
+pub frames-join : (clips : List SceneClipData) (s : SceneData) (t m n : ℕ) → frames_from clips s t (m + n) ≡ frames_from clips s t m ++ frames_from clips s (t + m) n
+frames-join clips s t m n = map_range-join (λ (k : ℕ). frame (frame_state clips s k) s.channels) t m n
+
 pub samples-join : (clips : List SceneClipData) (s : SceneData) (t count later : ℕ) → later ≡ t + count → interleaved (frames_from clips s 0 later) ≡ interleaved (frames_from clips s 0 t) ++ interleaved (frames_from clips s t count)
 unfolding interleaved
 samples-join clips s t count later e =
-    let f = λ (k : ℕ). frame (frame_state clips s k) s.channels in
     let start : 0 + t ≡ t = omega arith in
     ap (λ k. interleaved (frames_from clips s 0 k)) e
-    ∙ ap interleaved (map_range-join f 0 t count)
+    ∙ ap interleaved (frames-join clips s 0 t count)
     ∙ flat_map-append (λ (xs : List ℤ). xs) (frames_from clips s 0 t) (frames_from clips s (0 + t) count)
     ∙ ap (λ k. interleaved (frames_from clips s 0 t) ++ interleaved (frames_from clips s k count)) start
 

@@ -20,6 +20,10 @@ abbrev pub StaysBelow : List Bus → List ℕ → List ℕ → Type 0
 StaysBelow buses old new =
     (number : ℕ → ℕ) → AllRise number buses → ((n : ℕ) → depth_at old n ≤ number n) → (n : ℕ) → depth_at new n ≤ number n
 
+-- no numbers that rise along these buses are less than the depths anywhere
+abbrev pub AreLeast : List Bus → List ℕ → Type 0
+AreLeast buses depths = (number : ℕ → ℕ) → AllRise number buses → (n : ℕ) → depth_at depths n ≤ number n
+
 -- the bus's target was no deeper than its node, and is now the next deeper
 pub record IsDeeper (b : Bus) (old new : List ℕ) : Type 0 where
   pub to : ℕ

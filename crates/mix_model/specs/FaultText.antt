@@ -4,5 +4,5 @@ use Rattle.mix_model.specs.declared.mix_fault.MixFault.{MixFault}
 use Rattle.mix_model.specs.declared.mix_fault.MixFault.TheVariants.{SinkFault, OutOfMemory}
 
 abbrev pub fault_text : MixFault → List ℕ
-fault_text SinkFault = codes "the sink failed"
+fault_text SinkFault = codes "sink failed"
 fault_text OutOfMemory = codes "out of memory"

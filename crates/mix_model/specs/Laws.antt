@@ -1,13 +1,14 @@
 -- What the laws of the mix speak of.
-use Rattle.std.specs.Prelude.{◌≡◌, ◌≢◌, ◌<◌, ◌≤◌, ℕ, Bool, true, false, List, All, Some}
+use Rattle.std.specs.Prelude.{◌≡◌, ◌≢◌, ◌<◌, ◌≤◌, ℕ, Bool, true, false, ◌&&◌, not, List, All, Some}
 use Rattle.scene_model.specs.declared.bus.Bus.{Bus}
 use Rattle.scene_model.specs.declared.edit.Edit.{Edit}
 use Rattle.scene_model.specs.declared.edit.Edit.TheVariants.{Seek}
 use Rattle.scene_model.specs.declared.edit.EditRow.{EditRow}
+use Rattle.scene_model.specs.Plans.{is_sound_kind}
 use Rattle.scene_model.specs.SceneData.{SceneData}
 use Rattle.scene_model.specs.Times.{edits_at, plan}
 use Rattle.mix_model.specs.Pulled.{node, pulled}
-use Rattle.mix_model.specs.Signals.{FrameState}
+use Rattle.mix_model.specs.Signals.{FrameState, feeds}
 
 -- the state with these buses in its plan
 abbrev pub with_buses : FrameState → List Bus → FrameState
@@ -16,6 +17,14 @@ with_buses m buses = record m { plan = record m.plan { buses = buses } }
 -- no bus is attached to node n
 abbrev pub NoneAttached : List Bus → ℕ → Type 0
 NoneAttached buses n = All (λ (b : Bus). b.to ≢ Some n) buses
+
+-- whether what the bus adds to node n hangs on the input of its own node, as it does unless that is a sound
+abbrev pub passes_on : FrameState → ℕ → Bus → Bool
+passes_on m n b = feeds m n b && not (is_sound_kind (node m.plan b.node).kind)
+
+-- with each node the set has those whose inputs are passed on to it
+abbrev pub IsClosed : FrameState → (ℕ → Bool) → Type 0
+IsClosed m inside = (n : ℕ) → inside n ≡ true → All (λ (b : Bus). passes_on m n b ≡ true → inside b.node ≡ true) m.plan.buses
 
 -- the scene with these edits
 abbrev pub with_edits : SceneData → List EditRow → SceneData

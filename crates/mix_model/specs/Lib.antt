@@ -4,12 +4,14 @@ pub mod FaultText
 pub mod Iteration
 pub mod Laws
 pub mod Mix
+pub mod Moments
 pub mod OrderedBuses
 pub mod Output
 pub mod Playing
 pub mod Pulled
+pub mod ReadBack
 pub mod Rendering
 pub mod Signals
 pub mod Sizes
+pub mod Spans
 pub mod Summary
-pub mod ReadBack

@@ -1,7 +1,8 @@
 //! The clips of a scene's resources, and which node plays how many frames of them.
 
-ghost use Rattle.std.specs.Prelude.{◌≡◌, ◌≤◌, ℕ, All, length, map, slice_index, IfOk};
+ghost use Rattle.std.specs.Prelude.{◌≡◌, ◌+◌, ◌≤◌, ℕ, All, length, map, slice_index, IfOk};
 ghost use Rattle.clip_decode.specs.ClipData.{ClipData};
+ghost use Rattle.scene_model.specs.Limits as limits;
 ghost use Rattle.mix_model.specs.Mix.{clips_of, kind_frames, node_frames};
 ghost use Rattle.mix_model.specs.Sizes.{most_sound_bytes};
 
@@ -40,7 +41,7 @@ pub(crate) fn clip_lengths(scene: &Scene, clips: &[SceneClip]) -> [u64; MAX_INPU
 }
 
 fn set_lengths(scene: &Scene, clips: &[SceneClip], lengths: &mut [u64])
-    requires { length lengths.old ≡ 129 }
+    requires { length lengths.old ≡ limits.most_nodes + 1 }
     ensures { (n : ℕ) → slice_index lengths.new n ≡ node_frames clips.now scene.now n }
 {
     lengths.fill(0);

@@ -7,8 +7,10 @@ ghost use Rattle.mix_model.specs.OrderedBuses.{mark_at, cursor_after};
 
 use scene_model::NodeState;
 
-/// Moves the cursor of each pulled node on by a frame. `frames` has the length of each node's clip.
-pub(crate) fn advance(nodes: &[NodeState], marks: &[bool], frames: &[u64], cursors: &mut [u64])
+/// Moves the cursor of each pulled node on by a frame, and no other. `marks` says which nodes are pulled,
+/// and `frames` has the length of each node's clip, 0 for a group or a splitter; each of the three lists
+/// has a place for each node.
+pub fn advance_cursors(nodes: &[NodeState], marks: &[bool], frames: &[u64], cursors: &mut [u64])
     requires marks { length nodes.now ≤ length marks.now }
     requires frames { length nodes.now ≤ length frames.now }
     requires cursors { length nodes.now ≤ length cursors.old }
@@ -17,12 +19,13 @@ pub(crate) fn advance(nodes: &[NodeState], marks: &[bool], frames: &[u64], curso
     ensures rest { (n : ℕ) → length nodes.now ≤ n → slice_index cursors.new n ≡ slice_index cursors.old n }
 {
     for n in 0..nodes.len() {
-        cursors[n] = next(marks[n], frames[n], nodes[n].looped, cursors[n]);
+        cursors[n] = next_cursor(marks[n], frames[n], nodes[n].looped, cursors[n]);
     }
 }
 
-/// The cursor after a frame: it moves on where the node is pulled.
-fn next(is_pulled: bool, frames: u64, looped: bool, cursor: u64) -> u64
+/// The cursor of a node after a frame: where the node is pulled it moves on to the next frame of its
+/// clip, of `frames` frames, and at the clip's end to the first where the sound loops.
+pub fn next_cursor(is_pulled: bool, frames: u64, looped: bool, cursor: u64) -> u64
     ensures { result ≡ (if is_pulled then next_frame frames looped cursor else cursor) }
 {
     if !is_pulled {

@@ -7,10 +7,14 @@ ghost use Rattle.mix_model.specs.Mix.{cursor_after_edit};
 
 use scene_model::{Edit, NumberedEdit, Plan, apply};
 
-/// Makes the edits of a frame, which begin at `place`: in the plan, and of the seeks in the cursors.
-/// `frames` has the length of each node's clip. Answers the place of the first edit of a later
-/// frame.
-pub(crate) fn make_due(
+/// Makes the edits of a frame: in the plan, and the seeks among them in the cursors too.
+///
+/// `edits` are a scene's in the order of their frames, and `place` is that of the first which isn't of
+/// an earlier frame. Each of them can be applied to the plan after those before it, as those of a scene
+/// can to its opening plan. `frames` has the length of each node's clip, 0 for a group or a splitter,
+/// and `cursors` the place of each node in its clip; a place past the clip's end is its end. Answers
+/// the place of the first edit of a later frame.
+pub fn make_due(
     edits: &[NumberedEdit],
     place: usize,
     time: u32,

@@ -8,6 +8,7 @@ ghost use Rattle.mix_model.specs.Pulled.{no_node, is_active as active};
 ghost use Rattle.mix_model.specs.Signals.{clip_sample_at, kind_output, input};
 ghost use Rattle.mix_model.specs.OrderedBuses.{frame_state_of, AreOrderedBuses, HaveChannel, sum_at, ShareAdded, AreWithin};
 
+use crate::pull::is_active;
 use mix_fixed::{Gain, sat24, scale};
 use scene_clips::SceneClip;
 use scene_model::{Bus, NodeKind, NodeState};
@@ -105,11 +106,4 @@ fn sample(clips: &[SceneClip], resource: u32, place: u64, channel: u8) -> i32
         Some(clip) if place < clip.len() => clip.sample(place, channel),
         _ => 0,
     }
-}
-
-/// Whether a node is active at a frame.
-pub(crate) fn is_active(node: &NodeState, time: u32) -> bool
-    ensures { result ≡ active time node.now }
-{
-    node.started && node.from <= time && time < node.until
 }

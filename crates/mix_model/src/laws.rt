@@ -15,8 +15,8 @@ ghost use Rattle.scene_model.specs.Reach.{HasNoCycle};
 ghost use Rattle.scene_model.specs.SceneData.{SceneData};
 ghost use Rattle.scene_model.specs.Times.{edits_at, plan};
 ghost use Rattle.wave_read.specs.Wave.{wave};
-ghost use Rattle.mix_model.specs.Iteration.{Solves};
-ghost use Rattle.mix_model.specs.Laws.{with_buses, NoneAttached, with_edits, NoneSeeks, IsUntouched, PlaysOn};
+ghost use Rattle.mix_model.specs.Iteration.{Solves, SolvesOn};
+ghost use Rattle.mix_model.specs.Laws.{with_buses, IsClosed, NoneAttached, with_edits, NoneSeeks, IsUntouched, PlaysOn};
 ghost use Rattle.mix_model.specs.Mix.{node_frames, cursor, mix};
 ghost use Rattle.mix_model.specs.Output.{wav};
 ghost use Rattle.mix_model.specs.Pulled.{endpoint, pulled_by, pulled};
@@ -29,6 +29,20 @@ pub fn inputs_have_one_solution()
     ensures solved { (m : FrameState) (channel : ℕ) → HasNoCycle m.plan.buses → Solves (input_by m channel) (input m channel) }
     ensures only { (m : FrameState) (channel : ℕ) (values : ℕ → ℤ) → HasNoCycle m.plan.buses →
         Solves (input_by m channel) values → (n : ℕ) → values n ≡ input m channel n }
+{}
+
+/// A law: on a set of nodes that has with each node those whose inputs are passed on to it, one
+/// assignment at most solves the equations of the inputs. What is pulled is such a set. So who
+/// computes the inputs of the pulled nodes alone has the inputs of these nodes, the endpoint among
+/// them.
+pub fn inputs_hang_on_what_feeds_them()
+    ensures agree { (m : FrameState) (channel : ℕ) (inside : ℕ → Bool) (values others : ℕ → ℤ) → HasNoCycle m.plan.buses → IsClosed m inside →
+        SolvesOn inside (input_by m channel) values → SolvesOn inside (input_by m channel) others →
+        (n : ℕ) → inside n ≡ true → values n ≡ others n }
+    ensures closed { (m : FrameState) → HasNoCycle m.plan.buses → IsClosed m (pulled m.plan m.time) }
+    ensures pulled { (m : FrameState) (channel : ℕ) (values : ℕ → ℤ) → HasNoCycle m.plan.buses →
+        SolvesOn (pulled m.plan m.time) (input_by m channel) values →
+        (n : ℕ) → pulled m.plan m.time n ≡ true → values n ≡ input m channel n }
 {}
 
 /// A law: in a plan without a cycle there is one answer to which nodes are pulled.

@@ -26,13 +26,24 @@ mod order;
 mod player;
 mod pull;
 mod rendering;
+mod span_laws;
 mod summary;
+mod wav_file;
 
+pub use cursors::{advance_cursors, next_cursor};
+pub use edits::make_due;
 pub use laws::{
-    a_sound_plays_its_clip, edits_past_the_end_change_nothing, inputs_have_one_solution,
-    pulls_have_one_solution, the_order_of_buses_makes_no_difference,
+    a_sound_plays_its_clip, edits_past_the_end_change_nothing, inputs_hang_on_what_feeds_them,
+    inputs_have_one_solution, pulls_have_one_solution, the_order_of_buses_makes_no_difference,
     what_is_not_attached_is_silent, what_is_not_pulled_does_not_move, what_is_written_is_read_back,
 };
 pub use mix_fault::MixFault;
+pub use order::{MAX_INPUTS, depths, topological_order};
+pub use pull::{is_active, mark_pulled};
 pub use rendering::plain_mix;
+pub use span_laws::{
+    a_sound_plays_on, frames_can_be_split, frames_go_on_between_edits, moments_follow_one_another,
+    no_edit_falls_before_the_next, pulls_stay_between_times,
+};
 pub use summary::Summary;
+pub use wav_file::{scene_header, write_padding};

@@ -19,7 +19,7 @@ impl fmt::Display for MixFault {
 
     fn fmt<W: fmt::Write>(&self, f: &mut fmt::Formatter<W>) -> fmt::Result {
         match self {
-            MixFault::SinkFault => f.write_str("the sink failed"),
+            MixFault::SinkFault => f.write_str("sink failed"),
             MixFault::OutOfMemory => f.write_str("out of memory"),
         }
     }

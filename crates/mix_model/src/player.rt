@@ -9,11 +9,11 @@ ghost use Rattle.mix_model.specs.Signals.{frame};
 ghost use Rattle.mix_model.specs.Sizes.{most_sound_bytes};
 
 use crate::clips::{clip_lengths, decoded};
-use crate::cursors::advance;
+use crate::cursors::advance_cursors;
 use crate::edits::make_due;
 use crate::frame::inputs;
 use crate::order::{MAX_INPUTS, topological_order};
-use crate::pull::pull;
+use crate::pull::mark_pulled;
 use clip_decode::Clip;
 use mix_fixed::sat24;
 use plain_data::{OutOfMemory, Rows};
@@ -171,8 +171,8 @@ impl Player {
     {
         let nodes = self.plan.nodes();
         let marks = &mut self.marks.as_mut_slice()[..=nodes.len()];
-        pull(nodes, self.ordered_buses.as_slice(), self.time, marks);
-        advance(
+        mark_pulled(nodes, self.ordered_buses.as_slice(), self.time, marks);
+        advance_cursors(
             nodes,
             marks,
             self.frames.as_slice(),

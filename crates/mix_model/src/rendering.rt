@@ -4,20 +4,19 @@ ghost use Rattle.std.specs.Prelude.{◌≡◌, ◌<◌, ◌≤◌, All, length, 
 ghost use Rattle.clip_decode.specs.ClipData.{ClipData};
 ghost use Rattle.snd_io.specs.Answers.{put_failed, Writes};
 ghost use Rattle.snd_io.specs.Faults.{CountsFaults};
-ghost use Rattle.wave_write.specs.Header.{header as header_of, data_bytes};
 ghost use Rattle.mix_model.specs.Mix.{frames_from, mix};
-ghost use Rattle.mix_model.specs.Output.{wav, padding};
+ghost use Rattle.mix_model.specs.Output.{wav};
 ghost use Rattle.mix_model.specs.Rendering.{data_of, summary_of, IsRendered, answer_of};
 ghost use Rattle.mix_model.specs.Sizes.{most_sound_bytes};
 
 use crate::blocks::Blocks;
 use crate::mix_fault::MixFault;
 use crate::summary::Summary;
+use crate::wav_file::{scene_header, write_padding};
 use clip_decode::Clip;
 use scene_model::Scene;
 use snd_io::{Put, Sink};
 use std::alloc::Global;
-use wave_write::header;
 
 /// Mixes a scene frame by frame and writes its WAVE file to a sink: the 44-byte header, the frames,
 /// interleaved and packed at the scene's width, and the pad byte if there is one (RIFF WAVE). The
@@ -70,13 +69,6 @@ fn write_wav<S: Sink>(
     done(write_padding(alloc, scene, sink))
 }
 
-/// The header of a scene's file.
-fn scene_header(scene: &Scene) -> [u8; 44]
-    ensures { result ≡ header_of scene.now.channels scene.now.rate scene.now.width scene.now.length }
-{
-    header(scene.channels, scene.rate, scene.width, scene.length)
-}
-
 /// Writes all frames, block by block.
 fn write_frames<S: Sink>(
     alloc: Global,
@@ -97,19 +89,6 @@ fn write_frames<S: Sink>(
         done(sink.write(alloc, blocks.bytes.as_slice()))?;
     }
     Ok(())
-}
-
-/// Writes the zero byte that follows data of an odd size.
-fn write_padding<S: Sink>(alloc: Global, scene: &Scene, sink: &mut S) -> Put
-    ensures after { Writes result (padding (data_bytes scene.now.channels scene.now.width scene.now.length)) (S.written sink.old) (S.written sink.new) }
-    ensures cause { CountsFaults (S.faults sink.old) (S.faults sink.new) (put_failed result) }
-{
-    let size = scene.length * (u32::from(scene.channels) * u32::from(scene.width / 8));
-    if size % 2 == 1 {
-        sink.write(alloc, &[0])
-    } else {
-        Put::Done
-    }
 }
 
 /// What a write to the sink was answered, as a result.

@@ -12,7 +12,7 @@ pub struct Summary {
 
 impl Summary {
     /// The summary of no samples.
-    pub(crate) fn empty() -> Self
+    pub fn empty() -> Self
         ensures { result ≡ spec.summary [] [] }
     {
         Summary { peak: 0, sum: 0 }
@@ -20,7 +20,7 @@ impl Summary {
 
     /// The summary with these samples, and the bytes that they are packed in, after those that it
     /// was of.
-    pub(crate) fn extended(self, samples: &[i32], bytes: &[u8]) -> Self
+    pub fn extended(self, samples: &[i32], bytes: &[u8]) -> Self
         ensures { (before : List ℤ) (packed : List ℕ) → self ≡ spec.summary before packed → result ≡ spec.summary (before ++ samples.now) (packed ++ bytes.now) }
     {
         Summary {

@@ -1,5 +1,6 @@
 use Rattle.std.proofs.Common.{arith, refl, length}
-use Rattle.mix_model.proofs.Deepening.{IsBelowAll, depths_most, sum_most, zeros_at}
+use Rattle.mix_model.specs.Depths.{AreLeast}
+use Rattle.mix_model.proofs.Deepening.{depths_most, sum_most, zeros_at}
 use Rattle.mix_model.proofs.order.settle.Goals as goal
 
 pub loop-init : goal.loop-init
@@ -13,7 +14,10 @@ loop-preserved c = λ number rise. c.deepen.ensures.kept number rise (c.loop.inv
 
 pub loop-smaller : goal.loop-smaller
 loop-smaller c =
-    let below : IsBelowAll c.args.buses.now c.deepen.new.depths = λ number rise. c.deepen.ensures.kept number rise (c.loop.invariant number rise) in
+    let below : AreLeast c.args.buses.now c.deepen.new.depths = λ number rise. c.deepen.ensures.kept number rise (c.loop.invariant number rise) in
     let most = sum_most c.deepen.new.depths (depths_most c.args.buses.now c.deepen.new.depths c.requires.no_cycle c.requires.most below) in
     let more = c.loop-test.ensures.deeper refl in
     omega arith
+
+pub returns-clause-least : goal.returns-clause-least
+returns-clause-least c = λ number rise. c.deepen.ensures.kept number rise (c.loop.invariant number rise)

@@ -1,30 +1,24 @@
-use Rattle.std.proofs.Common.{arith, refl, sym, ap, ◌∙◌, subst, ◌≤◌, List, length, map}
+use Rattle.std.proofs.Common.{◌+◌, arith, refl, sym, ap, ◌∙◌, subst, List, map}
 use Rattle.std.specs.List.Sorted.{IsPermutation}
 use Rattle.clip_decode.specs.ClipData.{ClipData}
 use Rattle.scene_model.specs.declared.bus.Bus.{Bus}
 use Rattle.scene_model.specs.IsScene.{IsScene}
 use Rattle.scene_model.specs.Limits as limits
-use Rattle.scene_model.specs.Opening.{opening}
 use Rattle.scene_model.specs.Order.{in_order}
-use Rattle.scene_model.specs.PlanData.{PlanData}
 use Rattle.scene_model.specs.Reach.{HasNoCycle}
 use Rattle.scene_model.specs.SceneData.{SceneData}
 use Rattle.scene_clips.specs.SceneClipData.{SceneClipData}
 use Rattle.mix_model.specs.Mix.{node_frames}
 use Rattle.mix_model.proofs.Deepening.{zeros_at}
-use Rattle.mix_model.proofs.ScenePlans.{buses_most_before}
-use Rattle.mix_model.proofs.Starting.{plan_start, cursor_start, next_start, can_start, channels_start}
+use Rattle.mix_model.proofs.Moments.{moment_start}
+use Rattle.mix_model.proofs.Starting.{channels_start}
 use Rattle.mix_model.proofs.player.Player.new.Goals as goal
 
 pub topological_order-requires-clause-no_cycle : goal.topological_order-requires-clause-no_cycle
 topological_order-requires-clause-no_cycle c = subst (λ (bs : List Bus). HasNoCycle bs) (sym c.buses.ensures.value) c.buses.ensures.plan.no_cycle
 
 pub topological_order-requires-clause-most : goal.topological_order-requires-clause-most
-topological_order-requires-clause-most c =
-    let s = c.args.scene.now in
-    let is : IsScene s = subst (λ (q : SceneData). IsScene q) c.scene.view_is c.scene.invariant in
-    let most : length (opening s).buses ≤ limits.most_buses = subst (λ (p : PlanData). length p.buses ≤ limits.most_buses) (plan_start s) (buses_most_before s 0 is) in
-    rw (c.buses.ensures.value, c.in_ok-plan.ensures) most
+topological_order-requires-clause-most c = rw c.buses.ensures.value c.buses.ensures.plan.buses_most
 
 pub returns-clause-before : goal.returns-clause-before
 returns-clause-before c =
@@ -41,10 +35,7 @@ returns-clause-before c =
         frames_are = λ n. c.clip_lengths-frames.ensures n ∙ ap (λ (cs : List SceneClipData). node_frames cs s n) c.as_slice-2.ensures.value;
       };
       time_most = omega arith;
-      plan_is = c.in_ok-plan.ensures ∙ sym (plan_start s);
-      cursors_are = λ n. zeros_at _ 129 n refl ∙ sym (cursor_start clips s n);
-      next = next_start c.in_ok-edits.edits;
-      can = rw c.in_ok-plan.ensures (can_start s c.in_ok-edits.edits is edits_are);
+      moment = rw c.in_ok-plan.ensures (moment_start clips s _ is (λ n. zeros_at _ (limits.most_nodes + 1) n refl));
       permutation = subst (λ (bs : List Bus). IsPermutation bs c.in_ok-ordered_buses.ordered_buses.items) c.buses.ensures.value c.in_ok-ordered_buses.ensures.permutation;
       ordered = c.in_ok-ordered_buses.ensures.ordered;
     }

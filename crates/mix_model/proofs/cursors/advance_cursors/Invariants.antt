@@ -1,7 +1,7 @@
 use Rattle.std.proofs.Common.{◌≡◌, ◌<◌, ◌≤◌, ℕ}
 use Rattle.std.specs.Prelude.{slice_index}
 use Rattle.mix_model.specs.OrderedBuses.{cursor_after}
-use Rattle.mix_model.proofs.cursors.advance.Given as goal
+use Rattle.mix_model.proofs.cursors.advance_cursors.Given as goal
 
 abbrev pub invariant-loop-n : goal.invariant-loop-n
 invariant-loop-n l = record {

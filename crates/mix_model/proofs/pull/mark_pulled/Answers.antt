@@ -2,7 +2,7 @@ use Rattle.std.proofs.lemmas.List.{length-set}
 use Rattle.std.proofs.Common.{arith, Bool, ◌-◌, ◌+◌, length}
 use Rattle.mix_model.specs.OrderedBuses.{plan_of, no_bus}
 use Rattle.mix_model.proofs.Marks.{marked_more, marked_all}
-use Rattle.mix_model.proofs.pull.pull.Goals as goal
+use Rattle.mix_model.proofs.pull.mark_pulled.Goals as goal
 
 pub loop-done-preserved : goal.loop-done-preserved
 loop-done-preserved c =

@@ -1,11 +1,11 @@
 -- The number of a word.
-use Rattle.std.proofs.Common.{◌≡◌, ◌<◌, ◌≤◌, ◌^◌, ℕ, nat_lt, nat_le, Bool, true, false, ◌&&◌, if◌then◌else◌, List, [], ◌∷◌, length, Some, None, Result, Ok, Err, refl, ◌∙◌, ap, sym}
+use Rattle.std.proofs.Common.{◌≡◌, ◌<◌, ◌≤◌, ◌^◌, ℕ, nat_lt, nat_le, Bool, true, false, ◌&&◌, if◌then◌else◌, List, [], ◌∷◌, length, Some, None, Result, Ok, Err, refl, ◌∙◌, ap, sym, arith}
 use Rattle.std.specs.Char.{is_ascii_digit}
 use Rattle.std.specs.Str.{all_ascii_digits}
 use Rattle.std.specs.Str.Parse.{digits_value, ParsesUnsigned}
 use Rattle.std.specs.Result.{OkIff, result_ok}
 use Rattle.std.proofs.lemmas.Str.Parse.{numerals_by_value, tells_all_ascii_digits, parse_digits}
-use Rattle.std.proofs.lemmas.Bool.{lt-ltb, le-ltb, ltb-true, ltb-false, leb-true}
+use Rattle.std.proofs.lemmas.Bool.{lt-ltb, le-ltb, ltb-true, ltb-false, leb-true, lt-leb}
 use Rattle.snd_tools.specs.Commands.{is_numeral, has_only_digits, number}
 
 same-test : (word : List ℕ) → has_only_digits word ≡ all_ascii_digits word
@@ -41,7 +41,19 @@ parsed digits word r numeral reads =
 module _ {E : Type 0} (digits limit : ℕ) (word : List ℕ) (numeral : is_numeral digits word ≡ true) (small : limit < 2 ^ 32) where
   -- a number that fits, and is or isn't at most the limit
   pub read-number : (r : Result ℕ E) (value : ℕ) → r ≡ Ok value → ParsesUnsigned 32 10 word r → (if nat_le value limit then Some value else None) ≡ number digits limit word
-  read-number r value is reads = ?
+  read-number r value is reads = rw numeral (by (nat_lt (digits_value 10 word) (2 ^ 32)) (ap result_ok (sym is) ∙ parsed digits word r numeral reads))
+    where
+      by : (b : Bool) → Some value ≡ (if b then Some (digits_value 10 word) else None)
+          → (if nat_le value limit then Some value else None) ≡ (if nat_le (digits_value 10 word) limit then Some (digits_value 10 word) else None)
+      by true same = let e : value ≡ digits_value 10 word = cc in ap (λ n. if nat_le n limit then Some n else None) e
+      by false same = cc
 
   pub read-none : (r : Result ℕ E) (error : E) → r ≡ Err error → ParsesUnsigned 32 10 word r → None ≡ number digits limit word
-  read-none r error is reads = ?
+  read-none r error is reads = rw numeral (by (nat_lt (digits_value 10 word) (2 ^ 32)) refl (ap result_ok (sym is) ∙ parsed digits word r numeral reads))
+    where
+      by : (b : Bool) → nat_lt (digits_value 10 word) (2 ^ 32) ≡ b → None ≡ (if b then Some (digits_value 10 word) else None)
+          → None ≡ (if nat_le (digits_value 10 word) limit then Some (digits_value 10 word) else None)
+      by true is same = cc
+      by false is same =
+          let large = ltb-false (digits_value 10 word) (2 ^ 32) is in
+          rw (lt-leb (digits_value 10 word) limit (omega (arith, large, small))) refl

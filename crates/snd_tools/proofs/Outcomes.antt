@@ -3,11 +3,14 @@ use Rattle.std.proofs.Common.{◌≡◌, ◌⊎◌, ℕ, Bool, true, false, List
 use Rattle.std.specs.Option.{option_map}
 use Rattle.std.specs.Result.{IsErrAnd}
 use Rattle.std.proofs.lemmas.Result.{err_from_is_err_and}
-use Rattle.snd_io.specs.Answers.{IsPrefix}
+use Rattle.snd_io.specs.declared.answers.PutFault.{PutFault}
+use Rattle.snd_io.specs.declared.answers.PutFault.TheVariants as faults
+use Rattle.snd_io.specs.Answers.{IsPrefix, put_failed, put_fault_of}
 use Rattle.snd_io.specs.Faults.{CountsFaults}
+use Rattle.snd_io.specs.Runs.{SetsFile}
 use Rattle.snd_io.proofs.PrefixLemmas.{IsPrefix-all}
 use Rattle.snd_io.specs.Files.{Files, Told, put_file}
-use Rattle.snd_status.specs.Statuses.{Ending, Success, NoMemory, Refusal, DepotFailure, TextFailure, ending}
+use Rattle.snd_status.specs.Statuses.{Ending, Success, NoMemory, Refusal, DepotFailure, TextFailure, ending, put_status}
 use Rattle.snd_status.specs.declared.status.Status.{Status}
 use Rattle.snd_status.specs.declared.status.Status.TheVariants.{Done, OutOfMemory, Usage, DepotFault, Absent, TooLong, Script, File, TextFault}
 use Rattle.snd_tools.specs.Counts.{CountsDepot, may_have_failed}
@@ -64,7 +67,18 @@ works-passed o before after depot_rose passed status same stop =
     let p = err_from_is_err_and passed same in
     subst (λ r. Works o before after depot_rose r) (sym (p.1 ∙ ap Err p.2)) stop
 
+-- a file that wasn't written
+pub stopped-put : (o : Outcome) (before after : Files) (depot_rose : Type 0) (fault : PutFault) → (put_failed (put_fault_of fault) ≡ true → depot_rose)
+    → IsLeft o before after → Stops o before after depot_rose (put_status fault)
+stopped-put o before after depot_rose faults.Failed rose left = (rose refl, left)
+stopped-put o before after depot_rose faults.OutOfMemory rose left = left
+
 -- ---- a command that writes one file
+
+pub left-by-fault : (fault : PutFault) (name bytes : List ℕ) (old new : Told) → SetsFile (put_fault_of fault) name bytes old new
+    → (new ≡ old) ⊎ ((part : List ℕ) × IsPrefix part bytes × (new ≡ option_map (put_file name part) old))
+left-by-fault faults.Failed name bytes old new set = set
+left-by-fault faults.OutOfMemory name bytes old new set = set
 
 pub left-in_part : (o : Outcome) (report : Report) (output : OutputFile) (before : Files) (old new : Told) → MayReport o report → report.outputs ≡ output ∷ [] → old ≡ Some before
     → (new ≡ old) ⊎ ((part : List ℕ) × IsPrefix part output.bytes × (new ≡ option_map (put_file output.name part) old))

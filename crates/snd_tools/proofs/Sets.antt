@@ -1,13 +1,18 @@
 -- Files that are set one after the other.
-use Rattle.std.proofs.Common.{◌≡◌, ◌⊎◌, ◌<◌, ◌≤◌, ◌+◌, ◌-◌, ℕ, suc, List, [], ◌∷◌, ◌++◌, map, Some, None, refl, ◌∙◌, ap, sym, subst, inl, inr, arith}
+use Rattle.std.proofs.Common.{◌≡◌, ◌⊎◌, ◌<◌, ◌≤◌, ◌+◌, ◌-◌, ℕ, suc, List, [], ◌∷◌, ◌++◌, map, Some, None, Result, refl, ◌∙◌, ap, sym, subst, inl, inr, arith}
 use Rattle.std.specs.Option.{option_map}
 use Rattle.std.specs.List.{range_with_len}
+use Rattle.std.specs.Result.{IsErrAnd}
 use Rattle.std.proofs.lemmas.List.FromFn.{map-range_with_len_more}
 use Rattle.plain_data.proofs.Lists.{map_range-join}
 use Rattle.snd_io.specs.declared.answers.Put.{Put}
 use Rattle.snd_io.specs.declared.answers.Put.TheVariants.{Done, Failed, OutOfMemory}
+use Rattle.snd_io.specs.declared.answers.PutFault.{PutFault}
+use Rattle.snd_io.specs.declared.answers.PutFault.TheVariants as faults
+use Rattle.snd_io.specs.Answers.{put_of, put_fault_of}
 use Rattle.snd_io.specs.Files.{Files, Told, put_file}
 use Rattle.snd_io.specs.Runs.{SetsFile}
+use Rattle.snd_io.proofs.WholeFiles.{passed-on}
 use Rattle.gen_scene.specs.Draws.{state}
 use Rattle.gen_scene.proofs.DrawLemmas.{state-resumed}
 use Rattle.gen_scene.specs.Sounds.{sounds, first_draw, sound_samples, sound_name, sound_file, sound_from}
@@ -55,8 +60,19 @@ module _ (first second : List OutputFile) (a b c : Told) where
   pub in-part-stopped : IsSetInPart first a c → IsSetInPart (first ++ second) a c
   in-part-stopped set = λ before told. let left = set before told in (left.0, left.1, part-before first second before left.0 left.2)
 
-pub none-set : (outputs : List OutputFile) (a : Told) → IsSetInPart outputs a a
-none-set outputs a = λ before told. (before, told, part-same outputs before)
+-- what was written where a fault is passed on
+pub stopped-in-part : (fault : PutFault) (outputs : List OutputFile) (a b : Told) → SetsAll (put_fault_of fault) outputs a b → IsSetInPart outputs a b
+stopped-in-part faults.Failed outputs a b set = set
+stopped-in-part faults.OutOfMemory outputs a b set = set
+
+pub passed-in-part : (passed : Result (Unit {0}) PutFault) (fault : PutFault) (outputs : List OutputFile) (a b : Told) → IsErrAnd passed (λ e. e ≡ fault)
+    → IsSetInPart outputs a b → SetsAll (put_of passed) outputs a b
+passed-in-part passed fault outputs a b same set =
+    subst (λ answer. SetsAll answer outputs a b) (sym (passed-on passed fault (put_fault_of fault) same refl)) (by fault)
+  where
+    by : (f : PutFault) → SetsAll (put_fault_of f) outputs a b
+    by faults.Failed = set
+    by faults.OutOfMemory = set
 
 module _ (name bytes : List ℕ) where
   one-in-part : (a b : Told) → (b ≡ a) ⊎ ((part : List ℕ) × Rattle.snd_io.specs.Answers.IsPrefix part bytes × (b ≡ option_map (put_file name part) a))

@@ -1,5 +1,5 @@
 -- Which files an outcome depends on.
-use Rattle.std.specs.Prelude.{◌≡◌, ℕ, List, All, Ok}
+use Rattle.std.specs.Prelude.{◌≡◌, ℕ, List, [], ◌∷◌, Ok}
 use Rattle.std.specs.FinMap.{get}
 use Rattle.scene_model.specs.SceneData.{SceneData}
 use Rattle.scene_model.specs.declared.resource.Resource.{Resource}
@@ -13,9 +13,10 @@ AgreeOn a b name = get a name ≡ get b name
 
 -- and so they do under the names of the resources' sound files
 abbrev pub AgreeOnSounds : Files → Files → List Resource → Type 0
-AgreeOnSounds a b resources = All (λ (r : Resource). AgreeOn a b r.file) resources
+AgreeOnSounds a b [] = Unit {0}
+AgreeOnSounds a b (resource ∷ more) = AgreeOn a b resource.file × AgreeOnSounds a b more
 
--- they have the same under each name that the command names: for `mix` SCENE, and the sound files of the scene that it is
+-- and under each name that the command names: for `mix` SCENE, and the sound files of the scene that it is
 abbrev pub AgreeFor : Files → Files → Command → Type 0
 AgreeFor a b (Mix scene out) =
     AgreeOn a b scene × ((s : SceneData) → scene_read scene (get a scene) ≡ Ok s → AgreeOnSounds a b s.resources)

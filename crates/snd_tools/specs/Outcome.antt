@@ -134,10 +134,14 @@ gen_line = line (codes "files 9")
 abbrev pub gen_outcome : ℕ → List ℕ → Result Report Status
 gen_outcome number prefix = Ok (record { outputs = gen_outputs number prefix; line = gen_line })
 
+-- the commands that come to one report alone, as all do so far
+abbrev pub command_result : Files → Command → Result Report Status
+command_result files (Mix scene out) = mix_outcome files scene out
+command_result files (Info file) = info_outcome files file
+command_result files (Gen number prefix) = gen_outcome number prefix
+
 abbrev pub command_outcome : Files → Command → Outcome
-command_outcome files (Mix scene out) = comes_to (mix_outcome files scene out)
-command_outcome files (Info file) = comes_to (info_outcome files file)
-command_outcome files (Gen number prefix) = comes_to (gen_outcome number prefix)
+command_outcome files command = comes_to (command_result files command)
 
 -- a command, or a word that doesn't fit
 abbrev pub commanded : Files → Result Command ℕ → Outcome

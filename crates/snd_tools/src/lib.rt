@@ -7,6 +7,7 @@ mod disk_depot;
 mod fetching;
 mod generating;
 mod info;
+mod laws;
 mod mix;
 mod printing;
 mod rendering;
@@ -15,6 +16,7 @@ mod tool;
 mod words;
 
 pub use disk_depot::DiskDepot;
+pub use laws::{an_outcome_is_that_of_the_named_files, the_refusal_is_the_first};
 pub use snd_status::Status;
 pub use text_out::TextOut;
 pub use tool::run_tool;

@@ -1,4 +1,4 @@
-ghost use Rattle.std.specs.Prelude.{◌≡◌};
+ghost use Rattle.std.specs.Prelude.{◌≡◌, nat_le, Some, None, if◌then◌else◌};
 ghost use Rattle.snd_tools.specs.Commands as spec;
 
 /// The most bytes of a path.
@@ -46,9 +46,15 @@ pub(crate) fn read_number(word: &str, digits: usize, limit: u32) -> Option<u32>
         return None;
     }
     match word.parse::<u32>() {
-        Ok(number) if number <= limit => Some(number),
-        _ => None,
+        Ok(number) => at_most(number, limit),
+        Err(_) => None,
     }
+}
+
+fn at_most(number: u32, limit: u32) -> Option<u32>
+    ensures { result ≡ (if nat_le number limit then Some number else None) }
+{
+    if number <= limit { Some(number) } else { None }
 }
 
 fn is_numeral(word: &str, digits: usize) -> bool

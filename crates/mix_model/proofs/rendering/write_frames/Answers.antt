@@ -17,7 +17,7 @@ loop-blocks-init g c =
       rendered = c.requires.rendered;
       clips = refl;
       text = nothing (g.S.Sink.written c.args.sink.now) ∙ ap (λ bytes. option_map (λ t. t ++ bytes) (g.S.Sink.written c.args.sink.now)) (sym empty);
-      later = omega arith;
+      faults = refl;
     }
 
 pub returns-in_err-next-clause-after : goal.returns-in_err-next-clause-after

@@ -8,7 +8,7 @@ invariant-loop-blocks g l = record {
   rendered : IsRendered l.fn.scene l.blocks;
   clips : l.blocks.player.clips.items ≡ l.initial.blocks.player.clips.items;
   text : g.S.Sink.written l.sink ≡ option_map (λ t. t ++ data_of l.fn.scene (frames_before l.fn.scene l.blocks)) (g.S.Sink.written l.initial.sink);
-  later : g.S.Sink.faults l.initial.sink ≤ g.S.Sink.faults l.sink;
+  faults : g.S.Sink.faults l.sink ≡ g.S.Sink.faults l.initial.sink;
 }
 
 abbrev pub decreases-loop-blocks : goal.decreases-loop-blocks

@@ -1,46 +1,55 @@
-use Rattle.std.proofs.Common.{◌∙◌, ap, refl, Ok, arith}
+use Rattle.std.proofs.Common.{◌∙◌, ap, refl, sym, subst, Ok, arith}
 use Rattle.std.specs.Option.{option_map}
+use Rattle.plain_data.proofs.Lists.{IfSome-at}
+use Rattle.snd_io.specs.Answers.{put_fault_of}
 use Rattle.snd_io.specs.Files.{put_file}
+use Rattle.snd_io.proofs.FaultLemmas.{Rose-within}
 use Rattle.snd_io.specs.MemText.{mem_text}
-use Rattle.snd_tools.specs.Outcome.{rendered, rendered_to}
+use Rattle.snd_status.specs.Statuses.{put_status}
+use Rattle.snd_tools.specs.Outcome.{comes_to, MayReport, mix_outcome, rendered, rendered_to}
 use Rattle.snd_tools.specs.Reading.{◌>>=◌}
 use Rattle.snd_tools.specs.Rendered.{said_rendering}
-use Rattle.snd_tools.proofs.Outcomes.{IfSome-at, stops, left-in_part}
+use Rattle.snd_tools.proofs.Outcomes.{stops, stopped-put, works-passed, left-in_part, left-by-fault}
 use Rattle.snd_tools.proofs.mix.mix.Goals as goal
 
-pub returns-in-Err-clause-told : goal.returns-in-Err-clause-told
-returns-in-Err-clause-told g c = λ before told. (
-  before,
-  c.in-Err.ensures.files ∙ told,
-  stops c.in-Err.status (rendered before c.args.scene.now) (λ r. Ok (rendered_to c.args.out.now r)) before _
-      (IfSome-at _ (g.D.Depot.files c.args.depot.now) before told c.in-Err.ensures.told)
-      c.in-Err.ensures.cause.cause,
-)
+pub returns-in_err-rendering-clause-told : goal.returns-in_err-rendering-clause-told
+returns-in_err-rendering-clause-told g c = λ before told.
+    let status = c.in_err-rendering.field-0.0 in (
+      before,
+      c.in_err-rendering.ensures.files ∙ told,
+      works-passed (comes_to (mix_outcome before c.args.scene.now c.args.out.now)) before before _ c.from_residual.result status c.from_residual.ensures.1
+          (stops status (rendered before c.args.scene.now) (λ r. Ok (rendered_to c.args.out.now r)) before _
+          (IfSome-at _ (g.D.Depot.files c.args.depot.now) before told c.in_err-rendering.ensures.told)
+          c.in_err-rendering.ensures.cause.cause),
+    )
 
-pub returns-in-Done-clause-told : goal.returns-in-Done-clause-told
-returns-in-Done-clause-told g c = λ before told.
-    let still = c.in-Ok.ensures.files ∙ told in
-    let given = IfSome-at _ (g.D.Depot.files c.args.depot.now) before told c.in-Ok.ensures.told in (
-      put_file c.args.out.now (mem_text c.in-Ok.rendering.file) before,
-      rw c.bytes.ensures at c.in-Done.ensures.after ∙ ap (option_map (put_file c.args.out.now (mem_text c.in-Ok.rendering.file))) still,
+pub returns-in_err-write_file-clause-told : goal.returns-in_err-write_file-clause-told
+returns-in_err-write_file-clause-told g c = λ before told.
+    let fault = c.in_err-write_file.field-0.0 in
+    let still = c.in_ok-rendering.ensures.files ∙ told in
+    let given = IfSome-at _ (g.D.Depot.files c.args.depot.now) before told c.in_ok-rendering.ensures.told in
+    let report = rendered_to c.args.out.now (said_rendering c.in_ok-rendering.rendering) in
+    let reported = subst (λ r. MayReport (comes_to (r >>= λ x. Ok (rendered_to c.args.out.now x))) report) (sym given) refl in
+    let left = left-in_part (comes_to (mix_outcome before c.args.scene.now c.args.out.now)) report _ before _ _ reported refl still
+    (left-by-fault fault c.args.out.now (mem_text c.in_ok-rendering.rendering.file) _ _ (rw c.bytes.ensures at c.in_err-write_file.ensures.after)) in (
+      left.0,
+      left.1,
+      works-passed (comes_to (mix_outcome before c.args.scene.now c.args.out.now)) before left.0 _ c.from_residual-in_err-write_file.result (put_status fault)
+          c.from_residual-in_err-write_file.ensures.1
+          (stopped-put (comes_to (mix_outcome before c.args.scene.now c.args.out.now)) before left.0 _ fault
+          (λ failed. Rose-within _ _ _ _ c.in_ok-rendering.ensures.cause.later (c.in_err-write_file.ensures.cause.cause failed) (omega arith)) left.2),
+    )
+
+pub returns-clause-told : goal.returns-clause-told
+returns-clause-told g c = λ before told.
+    let still = c.in_ok-rendering.ensures.files ∙ told in
+    let given = IfSome-at _ (g.D.Depot.files c.args.depot.now) before told c.in_ok-rendering.ensures.told in
+    let report = rendered_to c.args.out.now (said_rendering c.in_ok-rendering.rendering) in (
+      put_file c.args.out.now (mem_text c.in_ok-rendering.rendering.file) before,
+      rw c.bytes.ensures at c.in_ok-write_file.ensures.after ∙ ap (option_map (put_file c.args.out.now (mem_text c.in_ok-rendering.rendering.file))) still,
       (
-        rendered_to c.args.out.now (said_rendering c.in-Ok.rendering),
-        record { reported = ap (λ r. r >>= λ x. Ok (rendered_to c.args.out.now x)) given; set = refl },
+        report,
+        record { reported = subst (λ r. MayReport (comes_to (r >>= λ x. Ok (rendered_to c.args.out.now x))) report) (sym given) refl; set = refl },
         refl,
       ),
     )
-
-pub returns-in-Failed-clause-told : goal.returns-in-Failed-clause-told
-returns-in-Failed-clause-told g c = λ before told.
-    let still = c.in-Ok.ensures.files ∙ told in
-    let given = IfSome-at _ (g.D.Depot.files c.args.depot.now) before told c.in-Ok.ensures.told in
-    let left = left-in_part _ (rendered_to c.args.out.now (said_rendering c.in-Ok.rendering)) _ before _ _
-    (ap (λ r. r >>= λ x. Ok (rendered_to c.args.out.now x)) given) refl still (rw c.bytes.ensures at c.in-Failed.ensures.after) in
-    (left.0, left.1, (omega (arith, c.in-Failed.ensures.cause.cause refl, c.in-Ok.ensures.cause.later), left.2))
-
-pub returns-in-OutOfMemory-clause-told : goal.returns-in-OutOfMemory-clause-told
-returns-in-OutOfMemory-clause-told g c = λ before told.
-    let still = c.in-Ok.ensures.files ∙ told in
-    let given = IfSome-at _ (g.D.Depot.files c.args.depot.now) before told c.in-Ok.ensures.told in
-    left-in_part _ (rendered_to c.args.out.now (said_rendering c.in-Ok.rendering)) _ before _ _
-    (ap (λ r. r >>= λ x. Ok (rendered_to c.args.out.now x)) given) refl still (rw c.bytes.ensures at c.in-OutOfMemory.ensures.after)

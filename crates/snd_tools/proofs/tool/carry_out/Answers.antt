@@ -1,6 +1,6 @@
-use Rattle.std.proofs.Common.{ap, refl}
-use Rattle.snd_tools.specs.Outcome.{usage, command_outcome}
-use Rattle.snd_tools.specs.Reading.{◌>>=◌}
+use Rattle.std.proofs.Common.{refl, sym, subst}
+use Rattle.snd_status.specs.declared.status.Status.TheVariants.{Usage}
+use Rattle.snd_tools.specs.Outcome.{commanded, IsRefused}
 use Rattle.snd_tools.proofs.tool.carry_out.Goals as goal
 
 pub returns-in-Ok-Mix-clause-told : goal.returns-in-Ok-Mix-clause-told
@@ -14,7 +14,8 @@ returns-in-Ok-Info-clause-told g c = λ before told.
     (done.0, done.1, rw (c.in-Ok-Info.ensures, c.in-Ok-Info.field-0-is) done.2)
 
 pub returns-in-Err-clause-told : goal.returns-in-Err-clause-told
-returns-in-Err-clause-told g c = λ before told. (before, told, (ap (λ r. usage r >>= command_outcome before) c.in-Err.ensures, refl))
+returns-in-Err-clause-told g c = λ before told.
+    (before, told, (subst (λ r. IsRefused (commanded before r) (Usage c.in-Err.word)) (sym c.in-Err.ensures) refl, refl))
 
 pub returns-in-Ok-Gen-clause-told : goal.returns-in-Ok-Gen-clause-told
 returns-in-Ok-Gen-clause-told g c = λ before told.

@@ -1,8 +1,9 @@
 //! Clips of small files, and their samples worked out by hand from the rules of the format.
 
 use crate::sound_files::{PCM_12, PCM_16, PCM_24, RIFF, file};
-use clip_decode::{Clip, ClipError, pages};
-use std::alloc::{AllocError, Global};
+use clip_decode::{Clip, ClipError, Cursor, Page, fill, pages};
+use plain_data::OutOfMemory;
+use std::alloc::Global;
 use std::test::Fail;
 use wave_read::{Kind, Wave, WaveFault};
 
@@ -11,18 +12,15 @@ const PCM_8: &[u8] = b"fmt \x10\0\0\0\x01\0\x01\0\x40\x1f\0\0\x40\x1f\0\0\x01\0\
 
 const PCM_32: &[u8] = b"fmt \x10\0\0\0\x01\0\x01\0\x40\x1f\0\0\0\x7d\0\0\x04\0 \0";
 
-/// The interleaved samples of a clip of PCM, and none of another one.
-fn samples(alloc: Global, clip: &Clip) -> Result<Vec<i32>, AllocError> {
-    let mut samples = Vec::new(alloc);
+/// The interleaved samples of the first page of a clip, and none of one without frames.
+fn samples(alloc: Global, clip: &Clip) -> Result<Vec<i32>, OutOfMemory> {
     let wave = clip.wave();
-    if wave.kind == Kind::Pcm {
-        for frame in 0..wave.frames {
-            for channel in 0..wave.channels {
-                samples.push(clip.pcm_sample(frame, channel))?;
-            }
-        }
+    if pages(wave) == 0 {
+        return Ok(Vec::new(alloc));
     }
-    Ok(samples)
+    let mut page = Page::new(alloc, wave.channels)?;
+    fill(&mut Cursor::start(), clip, &mut page);
+    Ok(Vec::from_slice(alloc, page.samples())?)
 }
 
 /// A format, the `data` chunk after it, and the samples.

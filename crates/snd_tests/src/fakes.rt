@@ -3,7 +3,9 @@ ghost use Rattle.std.specs.Prelude.{◌≡◌, None};
 ghost use Rattle.snd_io.specs.MemFiles.{mem_writing};
 
 use crate::programs::is_bytes;
-use snd_io::{Depot, Fetch, MemDepot, MemSink, Put, Sink, Snag, SureDepot};
+use snd_io::{
+    Depot, Fetch, FetchFault, MemDepot, MemSink, Put, PutFault, Sink, Snag, SureDepot, write_file,
+};
 use std::test::Fail;
 
 #[test]
@@ -51,22 +53,27 @@ fn snag(appends_only: bool, call: u32, taken: u32) -> Snag {
     }
 }
 
-/// Creates `f`, appends `abcdef` in three pieces and finishes it, up to the first failure.
+/// Creates `f`, appends `abcdef` in three pieces and finishes it, up to the first answer other than
+/// `Done`.
 fn write_in_pieces(rt: &HostRuntime, depot: &mut MemDepot) -> Put
     requires { mem_writing depot.old ≡ None }
 {
     let alloc = rt.alloc();
-    if depot.create(alloc, "f") != Put::Done {
-        return Put::Failed;
+    let created = depot.create(alloc, "f");
+    if created != Put::Done {
+        return created;
     }
-    if depot.append(alloc, b"ab") != Put::Done {
-        return Put::Failed;
+    let first = depot.append(alloc, b"ab");
+    if first != Put::Done {
+        return first;
     }
-    if depot.append(alloc, b"cd") != Put::Done {
-        return Put::Failed;
+    let second = depot.append(alloc, b"cd");
+    if second != Put::Done {
+        return second;
     }
-    if depot.append(alloc, b"ef") != Put::Done {
-        return Put::Failed;
+    let third = depot.append(alloc, b"ef");
+    if third != Put::Done {
+        return third;
     }
     depot.finish()
 }
@@ -107,5 +114,23 @@ fn a_sink_fails_at_the_writes_that_are_listed(rt: HostRuntime) -> Result<(), Fai
     assert_eq!(rt; sink.write(alloc, b"two "), Put::Failed);
     assert_eq!(rt; sink.write(alloc, b"three"), Put::Done);
     assert_eq!(rt; sink.bytes(), b"one tthree".as_slice());
+    Ok(())
+}
+
+#[test]
+fn an_answer_is_a_result_and_a_file_is_written_whole(rt: HostRuntime) -> Result<(), Fail> {
+    let alloc = rt.alloc();
+    assert_eq!(rt; Put::Done.into_result(), Ok(()));
+    assert_eq!(rt; Put::Failed.into_result(), Err(PutFault::Failed));
+    assert_eq!(rt; Fetch::Absent.into_result(), Err(FetchFault::Absent));
+    let mut depot = MemDepot::new(alloc)?;
+    assert_eq!(rt; write_file(alloc, &mut depot, "f", b"all"), Ok(()));
+    assert!(rt; is_bytes(depot.file("f"), b"all"));
+    depot.fail(alloc, snag(false, 6, 0))?;
+    assert_eq!(rt;
+        write_file(alloc, &mut depot, "f", b"bytes"),
+        Err(PutFault::Failed)
+    );
+    assert!(rt; is_bytes(depot.file("f"), b"bytes"));
     Ok(())
 }

@@ -1,5 +1,5 @@
 //! `info`, and the text of each fault of a WAVE file.
-use crate::mixes::TONE;
+use crate::mixes::{BAD_INDEX, TONE};
 use crate::programs::ends;
 use plain_data::OutOfMemory;
 use snd_io::SureDepot;
@@ -92,6 +92,7 @@ fn changed(alloc: Global, bytes: &[u8], changes: &[(usize, u8)]) -> Result<Vec<u
 fn each_fault_of_a_file_has_its_text(rt: HostRuntime) -> Result<(), Fail> {
     let alloc = rt.alloc();
     assert!(rt; tells(alloc, b"", 7, "file: 0: NotRiff\n")?);
+    assert!(rt; tells(alloc, BAD_INDEX, 7, "file: 0: StepIndex 0 0 89\n")?);
     for (changes, text) in FAULTS {
         let file = changed(alloc, TONE, changes)?;
         assert!(rt; tells(alloc, &file, 7, text)?, "{text}");

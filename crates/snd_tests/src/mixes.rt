@@ -19,6 +19,14 @@ pub const TONE: &[u8] =
 const WIDE: &[u8] =
     b"RIFF\x48\0\0\0WAVEfmt \x28\0\0\0\xfe\xff\x02\0\x40\x1f\0\0\x80\xbb\0\0\x06\0\x18\0\x16\0\x18\0\x03\0\0\0\x01\0\0\0\0\0\x10\0\x80\0\0\xaa\0\x38\x9b\x71data\x0c\0\0\0\x01\0\0\xff\xff\xff\0\0\x80\xff\xff\x7f";
 
+/// A mono file of 16 bits at 8000 Hz without a sample.
+pub const EMPTY: &[u8] =
+    b"RIFF\x24\0\0\0WAVEfmt \x10\0\0\0\x01\0\x01\0\x40\x1f\0\0\x80\x3e\0\0\x02\0\x10\0data\0\0\0\0";
+
+/// IMA ADPCM of a block whose step index is 89.
+pub const BAD_INDEX: &[u8] =
+    b"RIFF\0\0\0\0WAVEfmt \x10\0\0\0\x11\0\x01\0\x40\x1f\0\0\0\0\0\0\x08\0\x04\0data\x08\0\0\0\0\x7d\x59\0\x77\xff\0\x08";
+
 /// The words of the command, and what it prints for the four samples.
 const MIX: &[&str] = &["mix", "scene.toml", "out.wav"];
 
@@ -58,6 +66,10 @@ fn a_sound_is_copied_to_the_output(rt: HostRuntime) -> Result<(), Fail> {
     assert_eq!(rt; ramps.len(), 16_044);
     assert!(rt; is_bytes(depot.file("out.wav"), ramps.as_slice()));
 
+    let mut depot = depot_with(alloc, 0, TONE)?;
+    assert_eq!(rt; run(alloc, &mut depot, MIX)?.0, Status::Done);
+    assert!(rt; is_bytes(depot.file("out.wav"), EMPTY));
+
     let mut depot = depot_with(alloc, 6, TONE)?;
     assert_eq!(rt; run(alloc, &mut depot, MIX)?.0, Status::Done);
     let longer =
@@ -91,6 +103,10 @@ fn what_is_refused_changes_no_file(rt: HostRuntime) -> Result<(), Fail> {
     assert!(rt; ends(alloc, &mut depot, MIX, 4, "absent: tone.wav\n")?);
     depot.set(alloc, "tone.wav", &TONE[..20])?;
     assert!(rt; ends(alloc, &mut depot, MIX, 7, "file: 0: ChunkPastEnd 12\n")?);
+    depot.set(alloc, "tone.wav", BAD_INDEX)?;
+    assert!(rt; ends(alloc, &mut depot, MIX, 7, "file: 0: StepIndex 0 0 89\n")?);
+    assert!(rt; depot.file("out.wav").is_none());
+    depot.set(alloc, "tone.wav", &TONE[..20])?;
     let mut bytes = Vec::from_slice(alloc, text.as_str().as_bytes())?;
     bytes.resize(4_194_304, b' ')?;
     depot.set(alloc, "scene.toml", &bytes)?;

@@ -1,6 +1,6 @@
 //! The plain mix itself, into a sink that takes its bytes and into one that fails.
 use crate::programs::{mixed, sound};
-use clip_decode::Clip;
+use clip_decode::{Clip, MAX_SOUND_BYTES};
 use mix_model::{MixFault, Summary, plain_mix};
 use scene_script::read_scene;
 use snd_io::MemSink;
@@ -8,7 +8,7 @@ use std::alloc::Global;
 use std::process::Abort;
 use std::test::Fail;
 
-/// A sound of four samples that is detached, sought and attached again, and gets another gain.
+/// A sound of four samples that is detached, sought and attached again, and gets another gain, and one past the end.
 const SCRIPT: &str = "version = 1
 rate = 8000
 channels = 1
@@ -17,7 +17,7 @@ length = 5
 resource = [{ name = \"a\", file = \"a.wav\" }]
 node = [{ kind = \"sound\", name = \"s\", resource = \"a\" }]
 bus = [{ node = \"s\", to = \"endpoint\" }]
-edit = [{ op = \"detach\", at = 2, node = \"s\" }, { op = \"seek\", at = 2, node = \"s\", value = 0 }, { op = \"attach\", at = 2, node = \"s\", to = \"endpoint\" }, { op = \"gain\", at = 4, node = \"s\", value = 131072 }]
+edit = [{ op = \"detach\", at = 2, node = \"s\" }, { op = \"seek\", at = 2, node = \"s\", value = 0 }, { op = \"attach\", at = 2, node = \"s\", to = \"endpoint\" }, { op = \"gain\", at = 4, node = \"s\", value = 131072 }, { op = \"gain\", at = 5, node = \"s\", value = 0 }]
 ";
 
 /// The mix of the script with this sound, written to the sink.
@@ -31,7 +31,7 @@ fn mix_into(
     let clip = Clip::new(alloc, file).ok().ok_or("a clip")?;
     let clips = [clip];
     assert!(rt; scene.resources.as_slice().len() == 1);
-    assert!(rt; clips[0].bytes().len() <= 67_108_864);
+    assert!(rt; clips[0].bytes().len() as u64 <= MAX_SOUND_BYTES);
     Ok(plain_mix(alloc, &scene, &clips, sink))
 }
 

@@ -1,5 +1,6 @@
 //! Whole scenes that were worked out by hand, each by its script, its samples and the samples that
 //! come out.
+use crate::mixes::EMPTY;
 use crate::programs::{data_of, mixed, sound};
 use plain_data::OutOfMemory;
 use std::alloc::{AllocError, Global};
@@ -136,6 +137,17 @@ fn scenes_come_out_as_they_were_worked_out(rt: HostRuntime) -> Result<(), Fail> 
     for worked in WORKED {
         assert!(rt; is_worked(rt.alloc(), worked)?, "{}", worked.0);
     }
+    Ok(())
+}
+
+#[test]
+fn a_scene_without_frames_is_a_header(rt: HostRuntime) -> Result<(), Fail> {
+    let alloc = rt.alloc();
+    let script = format!(in alloc; "{TOP}length = 0\n")?;
+    let (out, text) = mixed(alloc, script.as_str(), &[])?;
+    assert_eq!(rt; out.as_slice(), EMPTY);
+    let line = b"frames 0 rate 8000 channels 1 width 16 bytes 44 peak 0 sum 0\n";
+    assert_eq!(rt; text.as_slice(), line.as_slice());
     Ok(())
 }
 

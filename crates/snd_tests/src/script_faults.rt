@@ -109,6 +109,10 @@ const TABLES: &[(&str, &str)] = &[
         "length = 4\nnode = [{ kind = \"group\", name = \"g\" }]\nbus = [{ node = \"g\", gain = 1048577 }]",
         "script: EditRefused bus 1 GainTooLarge\n",
     ),
+    (
+        "length = 4\nnode = [{ kind = \"group\", name = \"a\" }, { kind = \"group\", name = \"b\" }, { kind = \"group\", name = \"c\" }]\nbus = [{ node = \"a\", to = \"c\" }]\nedit = [{ op = \"attach\", at = 4, node = \"a\", to = \"c\" }]",
+        "script: EditRefused edit 1 AlreadyAttached 2\n",
+    ),
 ];
 
 /// Whole scripts, and the line of their fault.

@@ -57,19 +57,19 @@ fn each_format_has_the_samples_of_its_standard(rt: HostRuntime) -> Result<(), Fa
     Ok(())
 }
 
-/// A stereo IMA file of a block of nine frames (100, -100) and a short one of (5, 6), with a `fact`
+/// A stereo IMA file with blocks of 16 bytes: one of nine frames (100, -100) and a short one of (5, 6), with a `fact`
 /// of this count, if there is one.
 fn ima_stereo(alloc: Global, fact: Option<u8>) -> Result<Vec<u8>, AllocError> {
     let mut file = Vec::from_slice(
         alloc,
-        b"RIFF\0\0\0\0WAVEfmt \x10\0\0\0\x11\0\x02\0\x40\x1f\0\0\0\0\0\0\x18\0\x04\0",
+        b"RIFF\0\0\0\0WAVEfmt \x10\0\0\0\x11\0\x02\0\x40\x1f\0\0\0\0\0\0\x10\0\x04\0",
     )?;
     if let Some(count) = fact {
         file.extend_from_slice(b"fact\x04\0\0\0")?;
         file.extend_from_slice(&[count, 0, 0, 0])?;
     }
-    file.extend_from_slice(b"data\x25\0\0\0")?;
-    file.extend_from_slice(b"\x64\0\0\0\x9c\xff\0\0\0\0\0\0\0\0\0\0\0\0\0\0\0\0\0\0")?;
+    file.extend_from_slice(b"data\x1d\0\0\0")?;
+    file.extend_from_slice(b"\x64\0\0\0\x9c\xff\0\0\0\0\0\0\0\0\0\0")?;
     file.extend_from_slice(b"\x05\0\0\0\x06\0\0\0\0\0\0\0\0")?;
     Ok(file)
 }
@@ -77,16 +77,16 @@ fn ima_stereo(alloc: Global, fact: Option<u8>) -> Result<Vec<u8>, AllocError> {
 #[test]
 fn a_short_block_and_a_count_of_frames_end_the_sound(rt: HostRuntime) -> Result<(), Fail> {
     let alloc = rt.alloc();
-    let counts = [(None, 18), (Some(20), 18), (Some(0), 18), (Some(7), 7)];
+    let counts = [(None, 10), (Some(20), 10), (Some(0), 10), (Some(7), 7)];
     for (fact, frames) in counts {
         let file = ima_stereo(alloc, fact)?;
-        let script = script(alloc, 8000, 2, 16, 18)?;
+        let script = script(alloc, 8000, 2, 16, 10)?;
         let (out, _) = mixed(alloc, script.as_str(), &[("tone.wav", &file)])?;
         let mut want = Vec::new(alloc);
-        for frame in 0..18 {
+        for frame in 0..10 {
             let sample: &[u8] = if frame >= frames {
                 b"\0\0\0\0"
-            } else if frame == 17 {
+            } else if frame == 9 {
                 b"\x05\0\x06\0"
             } else {
                 b"\x64\0\x9c\xff"
@@ -112,9 +112,7 @@ fn a_sound_of_half_the_rate_is_interpolated(rt: HostRuntime) -> Result<(), Fail>
     let mut samples = vec![in alloc; 0i16; 8191]?;
     samples.push(1000)?;
     samples.push(2001)?;
-    if samples.len() > 9000 {
-        return Ok(());
-    }
+    assert!(rt; samples.len() <= 9000);
     let file = sound(alloc, 1, 8000, &samples)?;
     let script = script(alloc, 16_000, 1, 16, 16_387)?;
     let (out, _) = mixed(alloc, script.as_str(), &[("tone.wav", &file)])?;

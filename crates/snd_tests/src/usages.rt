@@ -25,8 +25,6 @@ const USAGES: &[(&[&str], &str)] = &[
     (&["gen", "1a", "g"], "usage: word 1\n"),
     (&["gen", "4294967296", "g"], "usage: word 1\n"),
     (&["gen", "00000000001", "g"], "usage: word 1\n"),
-    (&["gen", "01", "g"], "usage: word 1\n"),
-    (&["gen", "00", "g"], "usage: word 1\n"),
     (&["gen", "x", "g h"], "usage: word 1\n"),
     (&["gen", "1", ""], "usage: word 2\n"),
     (&["gen", "1", "g h"], "usage: word 2\n"),

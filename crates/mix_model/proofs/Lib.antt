@@ -2,6 +2,7 @@ pub mod AddedShares
 pub mod CursorLaws
 pub mod Deepening
 pub mod DueEdits
+pub mod FrameSamples
 pub mod Frames
 pub mod HeadersRead
 pub mod Heard

@@ -2,10 +2,9 @@
 use Rattle.std.proofs.Common.{◌≡◌, ℕ, ◌+◌, ◌*◌, ◌/◌, ◌<◌, ◌≤◌, List, [], ◌∷◌, ◌++◌, length, map, take, drop, get_or, ap, sym, refl, ◌∙◌, arith}
 use Rattle.std.specs.Prelude.{ℤ, pos, Ok, All}
 use Rattle.std.specs.Int.{int_div_euclid}
-use Rattle.std.specs.List.{range_with_len}
 use Rattle.std.proofs.Math.Nat.{mul-div_cancel_left}
 use Rattle.std.proofs.lemmas.List.{append_assoc, length-replicate, length-map, drop-drop, ext_get_or, get_or-map, map-id}
-use Rattle.std.proofs.lemmas.List.Elements.{All-get_or, All-map}
+use Rattle.std.proofs.lemmas.List.Elements.{All-get_or}
 use Rattle.std.proofs.lemmas.List.FromFn.{length-map-range_with_len, get_or-map-range_with_len}
 use Rattle.std.proofs.lemmas.Nat.{mul-le}
 use Rattle.clip_decode.specs.Containers.{container_of}
@@ -20,12 +19,12 @@ use Rattle.scene_model.specs.SceneData.{SceneData}
 use Rattle.wave_read.specs.Wave.{wave}
 use Rattle.wave_write.specs.Header.{header, frame_bytes, data_bytes, pad_bytes}
 use Rattle.wave_write.specs.Samples.{packed_sample, packed}
-use Rattle.mix_model.specs.Mix.{clips_of, frame_state, mix}
+use Rattle.mix_model.specs.Mix.{clips_of, mix}
 use Rattle.mix_model.specs.Output.{padding, wav}
-use Rattle.mix_model.specs.Pulled.{endpoint}
 use Rattle.mix_model.specs.ReadBack.{AreFramesOf, written_wave}
-use Rattle.mix_model.specs.Signals.{input, frame}
+use Rattle.mix_model.specs.Signals.{frame}
 use Rattle.mix_model.proofs.HeadersRead.{IsWritable, wave_read_back}
+use Rattle.mix_model.proofs.FrameSamples.{frames_count, frames_widths}
 use Rattle.mix_model.proofs.PackedSamples.{length_interleaved, width_cases, length_packed, interleaved_at, packed_at, value_16, value_24}
 use Rattle.mix_model.proofs.Written.{samples_24}
 
@@ -159,13 +158,7 @@ mix_has_frames : (s : SceneData) (files : List (List ℕ)) → AreFramesOf s (mi
 unfolding mix
 mix_has_frames s files =
     let clips = clips_of s files in
-    let frame_at : ℕ → List ℤ = λ t. frame (frame_state clips s t) s.channels in
-    let width : (t : ℕ) → length (frame_at t) ≡ s.channels =
-    λ t. length-map-range_with_len (λ channel. input (frame_state clips s t) channel (endpoint (frame_state clips s t).plan)) 0 s.channels in
-    record {
-      count = length-map-range_with_len frame_at 0 s.length;
-      widths = All-map (λ f. length f ≡ s.channels) frame_at (range_with_len 0 s.length) (λ k d inside. width _);
-    }
+    record { count = frames_count clips s 0 s.length; widths = frames_widths clips s 0 s.length }
 
 mix_has_24 : (s : SceneData) (files : List (List ℕ)) → All Is24 (interleaved (mix s files))
 unfolding mix

@@ -10,9 +10,16 @@
 //! endpoint's inputs, and `specs/Output.antt` says what WAVE file they make.
 //!
 //! [`plain_mix`] writes that file to a sink, and answers a [`Summary`] of it or a [`MixFault`]. The
-//! modules below it are the parts of a frame: the edits that are due, a topological order of the
-//! buses, inputs, what is pulled, cursors. The laws, functions that do nothing, say that the
-//! definitions hold what one would expect of a mix.
+//! parts of a frame are public, for other renderers of the same mix: the edits that are due
+//! ([`make_due`]), depths of nodes and a topological order of the buses ([`depths`],
+//! [`topological_order`]), what is active and what is pulled ([`is_active`], [`mark_pulled`]), cursors
+//! ([`next_cursor`], [`advance_cursors`]), and what stands before and behind the frames in the file
+//! ([`scene_header`], [`write_padding`]).
+//!
+//! The laws, functions that do nothing, say that the definitions hold what one would expect of a mix.
+//! Those of `span_laws.rt` are for a renderer that computes many frames at a time: how a scene goes on
+//! from moment to moment (`specs/Moments.antt`), and what stays where no edit and no time of a node
+//! falls (`specs/Spans.antt`).
 #![tactic(auto)]
 
 mod blocks;
@@ -43,7 +50,7 @@ pub use pull::{is_active, mark_pulled};
 pub use rendering::plain_mix;
 pub use span_laws::{
     a_sound_plays_on, frames_can_be_split, frames_go_on_between_edits, moments_follow_one_another,
-    no_edit_falls_before_the_next, pulls_stay_between_times,
+    no_edit_falls_before_the_next, pulls_stay_between_times, samples_stand_frame_by_frame,
 };
 pub use summary::Summary;
 pub use wav_file::{scene_header, write_padding};

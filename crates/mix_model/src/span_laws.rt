@@ -1,7 +1,8 @@
 //! Laws of frames that follow one another, for a renderer that computes many of them at a time. The
 //! functions do nothing.
 
-ghost use Rattle.std.specs.Prelude.{◌≡◌, ◌<◌, ◌≤◌, ◌+◌, ◌%◌, ◌++◌, ℕ, suc, Bool, true, false, List, drop, fold, length, slice_index, if◌then◌else◌};
+ghost use Rattle.std.specs.Prelude.{◌≡◌, ◌<◌, ◌≤◌, ◌+◌, ◌*◌, ◌/◌, ◌%◌, ◌++◌, ℕ, suc, ℤ, pos, Bool, true, false, List, drop, fold, length, slice_index, slice_index_or, if◌then◌else◌};
+ghost use Rattle.clip_decode.specs.Frames.{interleaved};
 ghost use Rattle.scene_clips.specs.SceneClipData.{SceneClipData};
 ghost use Rattle.scene_model.specs.IsScene.{IsScene};
 ghost use Rattle.scene_model.specs.Opening.{opening};
@@ -13,13 +14,24 @@ ghost use Rattle.scene_model.specs.Times.{plan_before, plan};
 ghost use Rattle.mix_model.specs.Due.{due, frame_at, IsNext, AreInOrder, CanMakeAll};
 ghost use Rattle.mix_model.specs.Mix.{node_frames, cursor_after_edit, next_cursor, cursor_before, cursor, frame_state, frames_from};
 ghost use Rattle.mix_model.specs.Moments.{Moment, IsBeforeEdits, IsAfterEdits};
-ghost use Rattle.mix_model.specs.Pulled.{node, pulled};
+ghost use Rattle.mix_model.specs.Pulled.{endpoint, node, pulled};
+ghost use Rattle.mix_model.specs.Signals.{input};
 ghost use Rattle.mix_model.specs.Spans.{cursor_on, state_on, IsQuiet, IsSteady, AreApart, played, cursor_in};
 
 /// A law: frames that follow one another can be made in two goes.
 pub fn frames_can_be_split()
     ensures { (clips : List SceneClipData) (s : SceneData) (t m n : ℕ) →
         frames_from clips s t (m + n) ≡ frames_from clips s t m ++ frames_from clips s (t + m) n }
+{}
+
+/// A law: the samples of frames that follow one another, interleaved, are the endpoint's inputs: the one
+/// at place `j` is that of channel `j % channels` in the frame `j / channels` frames after the first.
+pub fn samples_stand_frame_by_frame()
+    ensures { (clips : List SceneClipData) (s : SceneData) (t count : ℕ) (samples : List ℤ) → 0 < s.channels →
+        length samples ≡ count * s.channels →
+        ((j : ℕ) → j < length samples → slice_index_or samples j (pos 0)
+        ≡ input (frame_state clips s (t + j / s.channels)) (j % s.channels) (endpoint (plan s (t + j / s.channels)))) →
+        samples ≡ interleaved (frames_from clips s t count) }
 {}
 
 /// A law: after the edits of frame `t` no edit falls before the frame of the next one, whose place is

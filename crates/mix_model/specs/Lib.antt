@@ -1,6 +1,6 @@
 pub mod Depths
 pub mod Due
-pub mod FaultText
+pub mod Faults
 pub mod Iteration
 pub mod Laws
 pub mod Mix
@@ -12,6 +12,5 @@ pub mod Pulled
 pub mod ReadBack
 pub mod Rendering
 pub mod Signals
-pub mod Sizes
 pub mod Spans
 pub mod Summary

@@ -4,7 +4,7 @@ ghost use Rattle.std.specs.Prelude.{◌≡◌, ◌<◌, ◌≤◌, ◌++◌, All
 ghost use Rattle.clip_decode.specs.ClipData.{ClipData};
 ghost use Rattle.mix_model.specs.Mix.{clips_of};
 ghost use Rattle.mix_model.specs.Rendering.{data_of, frames_before, IsRendered};
-ghost use Rattle.mix_model.specs.Sizes.{most_sound_bytes};
+ghost use Rattle.clip_decode.specs.Limits.{most_sound_bytes};
 
 use crate::player::Player;
 use crate::summary::Summary;

@@ -4,7 +4,7 @@ ghost use Rattle.std.specs.Prelude.{◌≡◌, ◌+◌, ◌≤◌, ℕ, All, len
 ghost use Rattle.clip_decode.specs.ClipData.{ClipData};
 ghost use Rattle.scene_model.specs.Limits as limits;
 ghost use Rattle.mix_model.specs.Mix.{clips_of, kind_frames, node_frames};
-ghost use Rattle.mix_model.specs.Sizes.{most_sound_bytes};
+ghost use Rattle.clip_decode.specs.Limits.{most_sound_bytes};
 
 use crate::order::MAX_INPUTS;
 use clip_decode::Clip;

@@ -1,4 +1,5 @@
 use plain_data::OutOfMemory;
+use snd_io::PutFault;
 use std::error::Error;
 use std::fmt;
 
@@ -13,7 +14,7 @@ pub enum MixFault {
 
 impl fmt::Display for MixFault {
     ghost use Rattle.std.specs.Prelude.{Some};
-    ghost use Rattle.mix_model.specs.FaultText.{fault_text};
+    ghost use Rattle.mix_model.specs.Faults.{fault_text};
 
     ghost output = { λ fault. Some (fault_text fault) };
 
@@ -35,5 +36,19 @@ impl From<OutOfMemory> for MixFault {
 
     fn from(_: OutOfMemory) -> Self {
         MixFault::OutOfMemory
+    }
+}
+
+impl From<PutFault> for MixFault {
+    ghost use Rattle.std.specs.Prelude.{◌≡◌};
+    ghost use Rattle.mix_model.specs.Faults.{put_fault};
+
+    ghost from_gives = { λ fault mix_fault. mix_fault ≡ put_fault fault };
+
+    fn from(fault: PutFault) -> Self {
+        match fault {
+            PutFault::Failed => MixFault::SinkFault,
+            PutFault::OutOfMemory => MixFault::OutOfMemory,
+        }
     }
 }

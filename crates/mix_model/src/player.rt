@@ -6,7 +6,7 @@ ghost use Rattle.mix_model.specs.Mix.{clips_of, frame_state, frames_from};
 ghost use Rattle.clip_decode.specs.Frames.{interleaved};
 ghost use Rattle.mix_model.specs.Playing.{IsBefore, IsAt};
 ghost use Rattle.mix_model.specs.Signals.{frame};
-ghost use Rattle.mix_model.specs.Sizes.{most_sound_bytes};
+ghost use Rattle.clip_decode.specs.Limits.{most_sound_bytes};
 
 use crate::clips::{clip_lengths, decoded};
 use crate::cursors::advance_cursors;

@@ -7,7 +7,7 @@ ghost use Rattle.snd_io.specs.Faults.{CountsFaults};
 ghost use Rattle.mix_model.specs.Mix.{frames_from, mix};
 ghost use Rattle.mix_model.specs.Output.{wav};
 ghost use Rattle.mix_model.specs.Rendering.{data_of, summary_of, IsRendered, answer_of};
-ghost use Rattle.mix_model.specs.Sizes.{most_sound_bytes};
+ghost use Rattle.clip_decode.specs.Limits.{most_sound_bytes};
 
 use crate::blocks::Blocks;
 use crate::mix_fault::MixFault;
@@ -95,9 +95,6 @@ fn write_frames<S: Sink>(
 fn done(put: Put) -> Result<(), MixFault>
     ensures { answer_of result ≡ put }
 {
-    match put {
-        Put::Done => Ok(()),
-        Put::Failed => Err(MixFault::SinkFault),
-        Put::OutOfMemory => Err(MixFault::OutOfMemory),
-    }
+    put.into_result()?;
+    Ok(())
 }

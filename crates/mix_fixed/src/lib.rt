@@ -3,10 +3,14 @@
 //! A sample lies from -8388608 to 8388607, the range of 24-bit PCM in two's complement (Microsoft,
 //! "Multiple Channel Audio Data and WAVE Files"). A [`Gain`] is at most 16.0. [`scale`] rounds
 //! down, towards negative infinity, and [`sat24`] brings a sum back to 24 bits by saturation.
+//! [`add_scaled`] and [`settle`] do the two for whole slices: sums of 64 bits that samples are added
+//! to by a gain, and the samples that come of them.
 #![tactic(auto)]
 
 mod gain;
+mod kernels;
 mod sample;
 
 pub use gain::{Gain, MAX_GAIN, UNITY_GAIN};
+pub use kernels::{add_scaled, settle};
 pub use sample::{sat24, scale};

@@ -1,13 +1,13 @@
-//! Plans of small scenes, and what edits are answered in them.
+//! Small scenes and their plans, and what edits are answered in them.
 ghost use Rattle.std.specs.Prelude.{◌≡◌, ◌≤◌, ◌*◌, true, IfOk, [], ◌∷◌, vec_len};
 ghost use Rattle.std.specs.List.{list_all};
 ghost use Rattle.scene_model.specs.Buses.{bus_count};
-ghost use Rattle.scene_model.specs.IsScene.{is_kind, is_node, is_bus_row};
+ghost use Rattle.scene_model.specs.IsScene.{is_kind, is_node, is_bus_row, is_edit_row};
 
 use plain_data::{OutOfMemory, Rows, Text};
 use scene_model::{
-    Bus, BusRow, Edit, MAX_LENGTH, Node, NodeKind, NodeState, Plan, Reply, Resource, Scene,
-    UNITY_GAIN, apply,
+    Bus, BusRow, Edit, EditRow, LAST_EDITOR, MAX_LENGTH, Node, NodeKind, NodeState, Plan, Reply,
+    Resource, Scene, UNITY_GAIN, apply,
 };
 use std::alloc::Global;
 use std::test::Fail;
@@ -81,8 +81,45 @@ fn rows(alloc: Global, nodes: usize, all: &[BusRow]) -> Result<Vec<BusRow>, OutO
     Ok(rows)
 }
 
-/// The opening plan of nodes of these kinds, wired by these rows.
-fn opening(alloc: Global, kinds: &[NodeKind], all: &[BusRow]) -> Result<Plan, OutOfMemory> {
+/// An edit of an editor: it starts node 0.
+fn start(editor: u8) -> EditRow
+    ensures { result ≡ record { at = 0; editor = editor; edit = Edit.Start 0 } }
+{
+    EditRow {
+        at: 0,
+        editor,
+        edit: Edit::Start { node: 0 },
+    }
+}
+
+fn is_edit(nodes: usize, editor: u8) -> bool
+    ensures { result ≡ is_edit_row nodes (record { at = 0; editor = editor; edit = Edit.Start 0 }) }
+{
+    editor <= LAST_EDITOR && nodes > 0
+}
+
+/// An edit for each of these editors, as far as a scene of that many nodes can have them, of which
+/// there are at most 64 here.
+fn starts(alloc: Global, nodes: usize, editors: &[u8]) -> Result<Vec<EditRow>, OutOfMemory>
+    ensures edits { IfOk result (λ edits. list_all (is_edit_row nodes) edits.items ≡ true) }
+    ensures few { IfOk result (λ edits. vec_len edits ≤ 64) }
+{
+    let mut edits = Vec::new(alloc);
+    for editor in editors {
+        if is_edit(nodes, *editor) && edits.len() < 64 {
+            edits.push(start(*editor))?;
+        }
+    }
+    Ok(edits)
+}
+
+/// A scene of nodes of these kinds, wired by these rows, with an edit for each of these editors.
+fn scene(
+    alloc: Global,
+    kinds: &[NodeKind],
+    all: &[BusRow],
+    editors: &[u8],
+) -> Result<Scene, OutOfMemory> {
     let mut resources = Vec::new(alloc);
     resources.push(Resource {
         name: name(alloc)?,
@@ -90,7 +127,8 @@ fn opening(alloc: Global, kinds: &[NodeKind], all: &[BusRow]) -> Result<Plan, Ou
     })?;
     let nodes = nodes(alloc, kinds)?;
     let buses = rows(alloc, nodes.len(), all)?;
-    let scene = Scene {
+    let edits = starts(alloc, nodes.len(), editors)?;
+    Ok(Scene {
         version: 1,
         rate: 8000,
         channels: 1,
@@ -99,8 +137,13 @@ fn opening(alloc: Global, kinds: &[NodeKind], all: &[BusRow]) -> Result<Plan, Ou
         resources: Rows::new(resources),
         nodes: Rows::new(nodes),
         buses: Rows::new(buses),
-        edits: Rows::new(Vec::new(alloc)),
-    };
+        edits: Rows::new(edits),
+    })
+}
+
+/// The opening plan of nodes of these kinds, wired by these rows.
+fn opening(alloc: Global, kinds: &[NodeKind], all: &[BusRow]) -> Result<Plan, OutOfMemory> {
+    let scene = scene(alloc, kinds, all, &[])?;
     Plan::opening(alloc, &scene)
 }
 
@@ -249,6 +292,23 @@ fn bus_rows_wire_the_opening_plan(rt: HostRuntime) -> Result<(), Fail> {
     let plan = opening(rt.alloc(), &[NodeKind::Group, NodeKind::Group], &rows)?;
     let buses = [bus(0, 0, Some(1), 7), bus(1, 0, None, 8)];
     assert_eq!(rt; plan.buses(), buses.as_slice());
+    Ok(())
+}
+
+#[test]
+fn a_scene_and_its_copy_have_numbers_of_buses_and_edits(rt: HostRuntime) -> Result<(), Fail> {
+    let scene = scene(rt.alloc(), &[SPLITTER, SOUND], &[], &[2, 0, 2])?;
+    assert_eq!(rt; scene.bus_number(0, 1), Some(1));
+    assert_eq!(rt; scene.bus_number(1, 0), Some(2));
+    assert_eq!(rt; scene.bus_number(1, 1), None);
+    assert_eq!(rt; scene.bus_number(2, 0), None);
+    let copy = scene.try_clone(rt.alloc())?;
+    assert_eq!(rt; copy.nodes.as_slice(), scene.nodes.as_slice());
+    let mut numbers = Vec::new(rt.alloc());
+    for edit in copy.edits_of(rt.alloc(), 2)?.as_slice() {
+        numbers.push(edit.number)?;
+    }
+    assert_eq!(rt; numbers.as_slice(), [0, 2].as_slice());
     Ok(())
 }
 

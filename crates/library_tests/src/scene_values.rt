@@ -30,6 +30,14 @@ fn names_outputs_and_replies(rt: HostRuntime) {
     assert!(rt; !Reply::NoInput.is_done());
 }
 
+#[test]
+fn a_reply_prints_its_name_and_number(rt: HostRuntime) -> Result<(), Fail> {
+    let reply = Reply::AlreadyAttached { to: 2 };
+    let printed = format!(in rt.alloc(); "{reply} {}", Reply::NoInput)?;
+    assert_eq!(rt; printed.as_str(), "AlreadyAttached 2 NoInput");
+    Ok(())
+}
+
 /// The numbers of edits at these frames, in the order in which they are made.
 fn numbers(alloc: Global, frames: [u32; 4]) -> Result<Vec<u32>, OutOfMemory> {
     let rows = frames.map(|at| EditRow {

@@ -7,13 +7,6 @@ ghost use Rattle.mix_model.specs.OrderedBuses.{plan_of, AreOrderedBuses, mark_at
 
 use scene_model::{Bus, NodeState};
 
-/// Whether a node is active at a frame: it is started, and `from <= time < until`.
-pub fn is_active(node: &NodeState, time: u32) -> bool
-    ensures { result ≡ active time node.now }
-{
-    node.started && node.from <= time && time < node.until
-}
-
 /// Marks each node that is pulled at a frame, and the endpoint, and clears all other marks. There are
 /// more `marks` than nodes. The buses are in a topological order and are looked at from the last to the
 /// first, so that a target's mark is settled before it is asked for.
@@ -32,6 +25,13 @@ pub fn mark_pulled(nodes: &[NodeState], ordered_buses: &[Bus], time: u32, marks:
             marks,
         );
     }
+}
+
+/// Whether a node is active at a frame: it is started, and `from <= time < until`.
+pub fn is_active(node: &NodeState, time: u32) -> bool
+    ensures { result ≡ active time node.now }
+{
+    node.started && node.from <= time && time < node.until
 }
 
 /// Marks the node of a bus too, where it is active and the bus leads to a marked node.

@@ -24,7 +24,8 @@ use std::alloc::Global;
 use std::marker::Model;
 
 /// How a scene is wired at some moment: each output bus with its target and gain, and each node
-/// with its kind and its settings. No node of it is reached from itself along attached buses.
+/// with its kind and its settings. It has at most 128 nodes, with at most 256 output buses in all. No
+/// node of it is reached from itself along attached buses.
 #[derive(Debug, Drop)]
 pub struct Plan {
     nodes: Vec<NodeState>,

@@ -80,7 +80,7 @@ impl Scene {
     }
 
     /// The edits of one editor with the numbers of their rows, in the order of rows: the first edit of
-    /// that editor, its second, and so on. None where no row has that editor.
+    /// that editor, its second, and so on. The list is empty where no row has that editor.
     ///
     /// # Errors
     ///

@@ -15,6 +15,8 @@ mod gains;
 #[cfg(test)]
 mod ima_blocks;
 #[cfg(test)]
+mod kernels;
+#[cfg(test)]
 mod page_walks;
 #[cfg(test)]
 mod plans;

@@ -49,6 +49,7 @@ pub use limits::{
     MAX_NAME_BYTES, MAX_NODES, MAX_PLACE, MAX_RATE, MAX_RESOURCES, MAX_SEEKS, MAX_SPLITTER_OUTPUTS,
     MIN_SPLITTER_OUTPUTS,
 };
+pub use mix_fixed::{MAX_GAIN, UNITY_GAIN};
 pub use name::{is_file_name, is_name};
 pub use node::{Node, NodeKind};
 pub use node_state::NodeState;
@@ -57,5 +58,3 @@ pub use plan::{Plan, apply};
 pub use reply::Reply;
 pub use resource::Resource;
 pub use scene::Scene;
-
-pub use mix_fixed::{MAX_GAIN, UNITY_GAIN};

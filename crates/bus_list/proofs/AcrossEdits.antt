@@ -1,18 +1,16 @@
--- What the pass knows over a step of the editor.
-use Rattle.std.proofs.Common.{◌≡◌, ◌≢◌, ◌⊎◌, ℕ, suc, ◌+◌, ◌≤◌, ◌<◌, Bool, true, false, cond, ◌||◌, ◌==◌, List, [], ◌∷◌, ◌++◌, length, refl, sym, ap, ◌∙◌, subst, inl, inr, ⊎_elim, arith, true≢false, Option, Some, None, is_some, length-append}
-use Rattle.std.proofs.lemmas.Bool.{eq-eqb, ne_eqb, or_parts, or_cases, or_left, or_right}
+-- What the pass knows stays so over a step of the editor.
+use Rattle.std.proofs.Common.{◌≡◌, ◌≢◌, ℕ, ◌≤◌, ◌<◌, true, false, ◌||◌, List, [], ◌∷◌, ◌++◌, length, sym, ap, ◌∙◌, subst, inl, inr, ⊎_elim, arith, Option, is_some, length-append}
+use Rattle.std.proofs.lemmas.Bool.{or_cases, or_left, or_right}
 use Rattle.bus_list.specs.declared.history.Entry.{Entry}
-use Rattle.bus_list.specs.declared.view.FlagState.{FlagState}
-use Rattle.bus_list.specs.declared.view.FlagState.TheVariants.{NotLoaded, FoundSet, Settled}
+use Rattle.bus_list.specs.declared.view.FlagState.TheVariants.{Settled}
 use Rattle.bus_list.specs.declared.view.EditorState.{EditorState}
 use Rattle.bus_list.specs.declared.view.PassState.{PassState}
-use Rattle.bus_list.specs.Visits.{has, Distinct, Each, attached_feed, attached_feed_after, buses_of}
-use Rattle.bus_list.specs.Invariant.{Memory, ListInvariant, PassInvariant, VisitInvariant, TailFrom, InChainOrRetired, retired, with_editor, never_aimed, never_held, feed_of, AttachedSinceBegin, FedSinceBegin, position, first_of, last_of, bit}
+use Rattle.bus_list.specs.Visits.{has, Each, attached_feed_after}
+use Rattle.bus_list.specs.Invariant.{PassInvariant, VisitInvariant, TailFrom, InChainOrRetired, retired, never_aimed, never_held, feed_of, AttachedSinceBegin, FedSinceBegin, position, first_of, last_of}
 use Rattle.bus_list.proofs.Visits.{on_before}
-use Rattle.bus_list.proofs.Phases.{lost}
 
 module _ {F : Type 0} where
-  -- the history is as it was, or longer
+  -- The history is as it was, or longer.
   pub record Grown (w w' : EditorState F) : Type 0 where
     pub longer : length w.history ≤ length w'.history
     pub same : (m b : ℕ) → m ≤ length w.history → attached_feed_after w'.history m b ≡ attached_feed_after w.history m b
@@ -68,7 +66,7 @@ module _ {F : Type 0} where
     seen_last = λ n s. let a = o.seen_last n s in (a.0, a.1, a.2, feeds n ∙ a.3);
   }
 
-  -- a bus whose cell the pass has is one that it holds
+  -- A bus whose cell the pass has is one that it holds.
   pub borrowed_at : (N : ℕ) (w : EditorState F) (p : PassState F) → PassInvariant N w p → p.borrowed ≢ N → InChainOrRetired N w p.borrowed
   borrowed_at N w p k n = ⊎_elim
       (λ (a : (p.borrowed ≡ p.held) × (p.flag_state ≡ Settled)). subst (InChainOrRetired N w) (sym a.0) k.held_at)
@@ -93,7 +91,7 @@ module _ {F : Type 0} where
     old_free = old;
   }
 
-  -- the same tail, in a chain and along links that are the same for it
+  -- An open visit over a step that leaves the chain, and the link of an unlinked bus.
   pub visit_same : (N : ℕ) (link link' : ℕ → ℕ) (w w' : EditorState F) (p : PassState F) → Grown w w' → w'.chain ≡ w.chain
       → (retired w.phase (position N p) ≡ true → (retired w'.phase (position N p) ≡ true) × (link' (position N p) ≡ link (position N p)))
       → (p.held ≢ N → feed_of w' p.held ≡ feed_of w p.held)

@@ -1,7 +1,6 @@
--- ListViews of numbers, and paths along links.
-use Rattle.std.proofs.Common.{◌≡◌, ◌≢◌, ◌⊎◌, ℕ, suc, ◌+◌, ◌≤◌, ◌<◌, Bool, true, false, cond, ◌||◌, ◌==◌, List, [], ◌∷◌, ◌++◌, map, length, refl, sym, ap, ◌∙◌, subst, inl, inr, ⊎_elim, arith, true≢false, append_assoc, append-nil}
+-- Lists of numbers, and paths along links.
+use Rattle.std.proofs.Common.{◌≡◌, ◌≢◌, ◌⊎◌, ℕ, ◌≤◌, ◌<◌, Bool, true, false, ◌||◌, ◌==◌, List, [], ◌∷◌, ◌++◌, refl, sym, ap, ◌∙◌, subst, inl, inr, ⊎_elim, arith, true≢false}
 use Rattle.std.proofs.lemmas.Bool.{eq-eqb, ne_eqb, eqb-true, cases_eq, cases_Bool, or_parts, or_cases, or_left, or_right}
-use Rattle.std.proofs.lemmas.Bool.Decides.{nat_tests}
 use Rattle.bus_list.specs.Visits.{has, Distinct, Each}
 use Rattle.bus_list.specs.Invariant.{updated, first_of, last_of, Path}
 
@@ -38,7 +37,7 @@ has_cons b x xs n = rw (ne_eqb b x n) refl
 pub not_append : (b : ℕ) (xs ys : List ℕ) → has b (xs ++ ys) ≡ false → (has b xs ≡ false) × (has b ys ≡ false)
 not_append b xs ys h = or_parts (has b xs) (has b ys) (sym (has_append b xs ys) ∙ h)
 
--- the middle of a list with no number twice
+-- The middle of a list with no number twice.
 pub distinct_middle : (xs ys : List ℕ) (x : ℕ) → Distinct (xs ++ x ∷ ys) → (has x xs ≡ false) × (has x ys ≡ false)
 distinct_middle [] ys x d = (refl, d.0)
 distinct_middle (z ∷ xs) ys x d =
@@ -66,7 +65,7 @@ each_has P (x ∷ xs) b e h = bool_cases (b == x)
     (λ q. subst P (sym (eqb-true b x q)) e.0)
     (λ q. each_has P xs b e.1 (rw q at h))
 
--- two ways to cut one list
+-- Two ways to cut one list.
 pub append_split : (xs ys pre tail : List ℕ) (c : ℕ) → xs ++ c ∷ ys ≡ pre ++ tail
     → ((u : List ℕ) × (pre ≡ xs ++ c ∷ u) × (ys ≡ u ++ tail)) ⊎ ((u : List ℕ) × (tail ≡ u ++ c ∷ ys) × (xs ≡ pre ++ u))
 append_split xs ys [] tail c e = inr (xs, sym e, refl)
@@ -86,26 +85,26 @@ pub last_of_append : (z : ℕ) (xs ys : List ℕ) → last_of z (xs ++ ys) ≡ l
 last_of_append z [] ys = refl
 last_of_append z (x ∷ xs) ys = last_of_append x xs ys
 
--- what follows the last bus of a beginning of the chain
+-- What follows the last bus of a beginning of the chain.
 pub path_at : (N : ℕ) (link : ℕ → ℕ) (z : ℕ) (xs ys : List ℕ) → Path N link (link z) (xs ++ ys) → link (last_of z xs) ≡ first_of N ys
 path_at N link z [] [] p = p
 path_at N link z [] (y ∷ ys) p = p.0
 path_at N link z (x ∷ xs) ys p = path_at N link x xs ys p.1
 
--- a store to a link outside of the chain
+-- A store to a link outside of the chain.
 pub path_updated : (N : ℕ) (link : ℕ → ℕ) (a : ℕ) (xs : List ℕ) (c v : ℕ) → has c xs ≡ false → Path N link a xs → Path N (updated link c v) a xs
 path_updated N link a [] c v h p = p
 path_updated N link a (x ∷ xs) c v h p =
     let n = has_not c x xs h in
     (p.0, subst (λ y. Path N (updated link c v) y xs) (sym (updated_else link c v x (λ e. n.0 (sym e)))) (path_updated N link (link x) xs c v n.1 p.1))
 
--- a bus at the front
+-- A bus at the front.
 pub path_front : (N : ℕ) (link : ℕ → ℕ) (xs : List ℕ) (c : ℕ) → c ≢ N → has N (c ∷ xs) ≡ false → link c ≡ link N → Path N link (link N) xs → Path N (updated link N c) (updated link N c N) (c ∷ xs)
 path_front N link xs c cn h e p =
     let n = has_not N c xs h in
     (updated_here link N c N refl, subst (λ y. Path N (updated link N c) y xs) (sym (updated_else link N c c cn ∙ e)) (path_updated N link (link N) xs N c n.1 p))
 
--- the predecessor's link leads past the bus
+-- The predecessor's link leads past the bus.
 path_past : (N : ℕ) (link : ℕ → ℕ) (z : ℕ) (xs ys : List ℕ) (c : ℕ) → Distinct (z ∷ xs ++ c ∷ ys) → Path N link (link z) (xs ++ c ∷ ys)
     → Path N (updated link (last_of z xs) (link c)) (updated link (last_of z xs) (link c) z) (xs ++ ys)
 path_past N link z [] ys c d p =
@@ -141,7 +140,7 @@ has_more b c xs ys h = has_append b xs (c ∷ ys) ∙ ⊎_elim
 pub not_less : (b c : ℕ) (xs ys : List ℕ) → has b (xs ++ c ∷ ys) ≡ false → has b (xs ++ ys) ≡ false
 not_less b c xs ys h = bool_cases (has b (xs ++ ys)) (λ e. absurd (true≢false (sym (has_more b c xs ys e) ∙ h))) (λ e. e)
 
--- the last is the dummy, or in the list
+-- The last is the dummy, or in the list.
 pub last_not : (z c : ℕ) (xs : List ℕ) → z ≢ c → has c xs ≡ false → last_of z xs ≢ c
 last_not z c [] n h = n
 last_not z c (x ∷ xs) n h = let m = has_not c x xs h in last_not x c xs (λ e. m.0 (sym e)) m.1
@@ -165,7 +164,7 @@ pub last_le : (N z : ℕ) (xs ys : List ℕ) → z ≤ N → Each (λ b. b < N) 
 last_le N z [] ys le e = le
 last_le N z (x ∷ xs) ys le e = last_le N x xs ys (let a = e.0 in omega arith) e.1
 
--- a path along a copy of the links
+-- A path along a copy of the links.
 pub path_copy : (N : ℕ) (link copy : ℕ → ℕ) (a : ℕ) (xs : List ℕ) → ((b : ℕ) → b ≤ N → link b ≡ copy b) → Each (λ b. b < N) xs → Path N link a xs → Path N copy a xs
 path_copy N link copy a [] same e p = p
 path_copy N link copy a (x ∷ xs) same e p = (p.0, subst (λ y. Path N copy y xs) (same x (let z = e.0 in omega arith)) (path_copy N link copy (link x) xs same e.1 p.1))

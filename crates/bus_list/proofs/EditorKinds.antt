@@ -1,21 +1,21 @@
--- The other steps of the editor.
-use Rattle.std.proofs.Common.{◌≡◌, ◌≢◌, ◌⊎◌, ℕ, suc, ◌+◌, ◌≤◌, ◌<◌, Bool, true, false, cond, ◌||◌, ◌==◌, List, [], ◌∷◌, ◌++◌, length, refl, sym, ap, ◌∙◌, subst, inl, inr, ⊎_elim, arith, true≢false, Option, Some, None, is_some}
-use Rattle.std.proofs.lemmas.Bool.{eq-eqb, ne_eqb, eqb-true, or_left, or_right, or_from, or_cases, or_parts}
+-- The steps of the editor that change neither the history nor the chain keep the invariant.
+use Rattle.std.proofs.Common.{◌≡◌, ◌≢◌, ℕ, ◌+◌, ◌≤◌, ◌<◌, true, false, cond, ◌||◌, ◌==◌, length, refl, sym, ap, ◌∙◌, subst, arith, Option, Some, None, is_some}
+use Rattle.std.proofs.lemmas.Bool.{eq-eqb, ne_eqb, eqb-true, or_from, or_parts}
 use mathlib.Core.Option.{some, none}
 use Rattle.bus_list.specs.declared.view.Phase.{Phase}
-use Rattle.bus_list.specs.declared.view.Phase.TheVariants.{Idle, Linked, Filling, Filled, Inserted, FlagSet, FlagCleared, Unlinked, Quiescent, Unreferenced, Emptying, Emptied}
+use Rattle.bus_list.specs.declared.view.Phase.TheVariants.{Idle, Linked, Filling, Filled, FlagSet, Unlinked, Quiescent, Unreferenced, Emptying, Emptied}
 use Rattle.bus_list.specs.declared.view.EditorState.{EditorState}
 use Rattle.bus_list.specs.declared.view.PassState.{PassState}
-use Rattle.bus_list.specs.Visits.{has, attached_feed, attached_feed_after}
-use Rattle.bus_list.specs.Invariant.{Memory, ListInvariant, ChainInvariant, PassInvariant, VisitInvariant, InChainOrRetired, IsDetached, PhaseFacts, Path, feed_of, cell_of, stored_feed, lag, half_attached, retired, with_editor, never_aimed, never_held, position, bit, updated}
+use Rattle.bus_list.specs.Visits.{has, attached_feed}
+use Rattle.bus_list.specs.Invariant.{Memory, ListInvariant, InChainOrRetired, IsDetached, PhaseFacts, Path, cell_of, stored_feed, lag, half_attached, retired, with_editor, never_aimed, never_held, position, bit, updated}
 use Rattle.bus_list.specs.Transitions.{at}
 use Rattle.bus_list.proofs.Chains.{same, cases, bool_cases, updated_else, updated_here, path_updated}
-use Rattle.bus_list.proofs.Phases.{lost, detached_not, never_aimed_end, never_held_of}
+use Rattle.bus_list.proofs.Phases.{lost, detached_not}
 use Rattle.bus_list.proofs.LoadLink.{position_held, position_aim}
-use Rattle.bus_list.proofs.AcrossEdits.{Grown, not_grown, visit_same, pass_invariant_over, borrowed_at}
+use Rattle.bus_list.proofs.AcrossEdits.{not_grown, visit_same, pass_invariant_over, borrowed_at}
 
 module _ {F : Type 0} where
-  -- only the phase changes, and maybe the count, a link outside of the chain, and a cell
+  -- A step that changes the phase, and maybe the count, a link outside of the chain, and a cell.
   pub rephase : (N : ℕ) (t : Memory F) (w : EditorState F) (p : PassState F) (ph ph' : Phase F) (edits : ℕ) (link : ℕ → ℕ) (cell : ℕ → mathlib.Core.Option.Option (mathlib.Core.Option.Option (Option F))) → ListInvariant N t (at ph w) p
       → (edits + lag ph' ≡ length w.history)
       → t.edits ≤ edits
@@ -49,7 +49,7 @@ module _ {F : Type 0} where
     last_count = let s = k.last_count in omega arith;
   }
 
-  -- a bus that is off and not in retired is not where the pass is
+  -- A bus that is detached and not unlinked by the detach under way is not where the pass is.
   pub not_reached : (N : ℕ) (t : Memory F) (w : EditorState F) (p : PassState F) (ph : Phase F) (c y : ℕ) → ListInvariant N t (at ph w) p → IsDetached N w c → half_attached ph c ≡ false → retired ph c ≡ false → y ≢ N → InChainOrRetired N (at ph w) y → y ≢ c
   not_reached N t w p ph c y k off ex li n pl e =
       let a : (has c w.chain || retired ph c) ≡ true = subst (λ z. (has z w.chain || retired ph z) ≡ true) e (pl n).1 in
@@ -61,7 +61,7 @@ module _ {F : Type 0} where
       (λ (q : p.borrowed ≡ N). let a = off.0 in absurd (omega arith))
       (λ (q : p.borrowed ≢ N). not_reached N t w p ph c p.borrowed k off ex li q (borrowed_at N (at ph w) p k.pass_invariant q) (sym e)))
 
-  -- store own link
+  -- The editor stores the bus's own link.
   pub stores_own_link : (N : ℕ) (t : Memory F) (w : EditorState F) (p : PassState F) (c : ℕ) → IsDetached N w c → ListInvariant N t (at Idle w) p → ListInvariant N (record t { link = updated t.link c (t.link N) }) (at (Linked c) w) p
   stores_own_link N t w p c off k =
       let cN : N ≢ c = λ e. let a = off.0 in absurd (omega arith) in
@@ -74,7 +74,7 @@ module _ {F : Type 0} where
       (off, updated_here t.link c (t.link N) c refl ∙ sym start)
       k.cells (λ y n pl. refl) (λ a. a) (λ a. a) (λ a. a) refl refl refl (λ l. lost (sym l))
 
-  -- the cell of a bus goes borrowed to the editor
+  -- The cell of a bus comes to the editor.
   cell_out : (N : ℕ) (t : Memory F) (w : EditorState F) (p : PassState F) (ph ph' : Phase F) (c : ℕ) → ListInvariant N t (at ph w) p → ((b : ℕ) → with_editor ph b ≡ false) → ((b : ℕ) → with_editor ph' b ≡ (b == c)) → ((b : ℕ) → b ≢ c → stored_feed ph' b (attached_feed w.history b) ≡ stored_feed ph b (attached_feed w.history b))
       → (b : ℕ) → b < N → updated t.cell c (some none) b ≡ some (cell_of (at ph' w) p b)
   cell_out N t w p ph ph' c k home gone feeds b bl = cases b c
@@ -82,7 +82,7 @@ module _ {F : Type 0} where
       (sym (bool_cases (b == p.borrowed) (λ q. rw q refl) (λ q. rw q (rw (gone b ∙ eq-eqb b c e) refl)))))
       (λ (n : b ≢ c). updated_else t.cell c (some none) b n ∙ (k.cells b bl ∙ (λ i. some (cond (b == p.borrowed) none (cond ((home b ∙ sym (gone b ∙ ne_eqb b c n)) i) none (some (sym (feeds b n) i)))))))
 
-  -- and comes home
+  -- It goes back.
   cell_home : (N : ℕ) (t : Memory F) (w : EditorState F) (p : PassState F) (ph ph' : Phase F) (c : ℕ) (x : Option F) → ListInvariant N t (at ph w) p → (c == p.borrowed) ≡ false → ((b : ℕ) → with_editor ph b ≡ (b == c)) → ((b : ℕ) → with_editor ph' b ≡ false) → ((b : ℕ) → b ≢ c → stored_feed ph' b (attached_feed w.history b) ≡ stored_feed ph b (attached_feed w.history b)) → stored_feed ph' c (attached_feed w.history c) ≡ x
       → (b : ℕ) → b < N → updated t.cell c (some (some x)) b ≡ some (cell_of (at ph' w) p b)
   cell_home N t w p ph ph' c x k borrowed gone home feeds is b bl = cases b c
@@ -93,7 +93,7 @@ module _ {F : Type 0} where
   at_home : (N : ℕ) (t : Memory F) (w : EditorState F) (p : PassState F) (ph : Phase F) (c : ℕ) → ListInvariant N t (at ph w) p → c < N → (c == p.borrowed) ≡ false → with_editor ph c ≡ false → t.cell c ≡ some (some (stored_feed ph c (attached_feed w.history c)))
   at_home N t w p ph c k lt borrowed home = k.cells c lt ∙ ap (λ (x : mathlib.Core.Option.Option (Option F)). some x) (rw borrowed (rw home refl))
 
-  -- the feed goes in: the cell borrowed, and home
+  -- The feed goes in: the cell comes to the editor, and goes back.
   pub opens_cell : (N : ℕ) (t : Memory F) (w : EditorState F) (p : PassState F) (c : ℕ) → ListInvariant N t (at (Linked c) w) p → (t.cell c ≡ some (some None)) × ListInvariant N (record t { cell = updated t.cell c (some none) }) (at (Filling c) w) p
   opens_cell N t w p c k =
       let d = k.chain_invariant.phase_facts in (
@@ -110,7 +110,7 @@ module _ {F : Type 0} where
       (cell_home N t w p (Filling c) (Filled c (Some f)) c (Some f) k (borrowed_else N t w p (Filling c) c k d.0 refl refl) (λ b. refl) (λ b. refl) (λ b n. rw (ne_eqb b c n) refl) (rw (same c) refl))
       (λ y n pl. rw (ne_eqb y c (not_reached N t w p (Filling c) c y k d.0 refl refl n pl)) refl) (λ a. a) (λ a. a) (λ a. a) refl refl refl (λ l. lost (sym l))
 
-  -- store edits, at the end of an attach and of a detach
+  -- The editor stores the count of edits, at the end of an attach and of a detach.
   pub counts_on : (N : ℕ) (t : Memory F) (w : EditorState F) (p : PassState F) (c : ℕ) → ListInvariant N t (at (FlagSet c) w) p → ListInvariant N (record t { edits = t.edits + 1 }) (at Idle w) p
   counts_on N t w p c k =
       rephase N t w p (FlagSet c) Idle (t.edits + 1) t.link t.cell k (let n = k.chain_invariant.count in omega arith) (omega arith) k.chain_invariant.path (λ b. refl) tt k.cells
@@ -121,7 +121,7 @@ module _ {F : Type 0} where
       rephase N t w p (Emptied c) Idle (t.edits + 1) t.link t.cell k (let n = k.chain_invariant.count in omega arith) (omega arith) k.chain_invariant.path (λ b. refl) tt k.cells
       (λ y n pl. refl) (λ a. a) (λ a. a) (λ a. a) refl refl refl (λ l. lost (sym l))
 
-  -- the editor found no step
+  -- The editor loads the step counter and finds 0.
   pub finds_no_step : (N : ℕ) (t : Memory F) (w : EditorState F) (p : PassState F) (c : ℕ) (x : Option F) → t.steps ≡ 0 → ListInvariant N t (at (Unlinked c x) w) p → ListInvariant N t (at (Quiescent c x) w) p
   finds_no_step N t w p c x zero k =
       let d = k.chain_invariant.phase_facts in
@@ -130,7 +130,7 @@ module _ {F : Type 0} where
       rephase N t w p (Unlinked c x) (Quiescent c x) t.edits t.link t.cell k k.chain_invariant.count (omega arith) k.chain_invariant.path (λ b. refl) d k.cells
       (λ y n pl. refl) (λ a. a) (λ a. a) (λ a. a) (ne_eqb p.aim c (λ e. let a = d.0.0 in absurd (omega arith))) refl refl (λ l. (l, refl))
 
-  -- the editor found no reference
+  -- The editor loads the reference count and finds 0.
   pub finds_no_reference : (N : ℕ) (t : Memory F) (w : EditorState F) (p : PassState F) (c : ℕ) (x : Option F) → t.references c ≡ 0 → ListInvariant N t (at (Quiescent c x) w) p → ListInvariant N t (at (Unreferenced c x) w) p
   finds_no_reference N t w p c x zero k =
       let d = k.chain_invariant.phase_facts in
@@ -151,7 +151,7 @@ module _ {F : Type 0} where
           (λ (q : p.aim ≡ N). held (sym (position_held N p q) ∙ e))
           (λ (q : p.aim ≢ N). aim (sym (position_aim N p q) ∙ e))
 
-  -- the feed comes borrowed: the cell borrowed, and home
+  -- The feed comes out: the cell comes to the editor, and goes back.
   pub takes_cell : (N : ℕ) (t : Memory F) (w : EditorState F) (p : PassState F) (c : ℕ) (x : Option F) → ListInvariant N t (at (Unreferenced c x) w) p → (t.cell c ≡ some (some x)) × ListInvariant N (record t { cell = updated t.cell c (some none) }) (at (Emptying c) w) p
   takes_cell N t w p c x k =
       let d = k.chain_invariant.phase_facts in (

@@ -1,30 +1,29 @@
--- The steps of the editor keep the rule.
-use Rattle.std.proofs.Common.{◌≡◌, ◌≢◌, ◌⊎◌, ℕ, zero, suc, ◌+◌, ◌-◌, ◌*◌, ◌/◌, ◌%◌, ◌^◌, ◌≤◌, ◌<◌, Bool, true, false, cond, ◌==◌, ◌||◌, List, [], ◌∷◌, ◌++◌, length, get_or, set, refl, sym, ap, ◌∙◌, subst, subst₂, inl, inr, ⊎_elim, arith, Option, Some, None, is_some, length-set}
+-- The steps of the editor, as steps of the table, keep its rule and tell what they have to.
+use Rattle.std.proofs.Common.{◌≡◌, ◌≢◌, ◌⊎◌, ℕ, ◌+◌, ◌*◌, ◌/◌, ◌≤◌, ◌<◌, true, false, cond, ◌==◌, ◌||◌, List, [], ◌∷◌, ◌++◌, length, set, refl, sym, ap, ◌∙◌, subst, subst₂, ⊎_elim, arith, Option, Some, None, is_some, length-set}
 use Rattle.std.specs.Prelude.{slice_index, slice_set}
 use Rattle.std.proofs.lemmas.Bool.{eq-eqb, ne_eqb, or_left}
 use Rattle.std.proofs.lemmas.List.{set-get_or}
 use mathlib.Core.Option.{some, none, some-injective, some-ne-none}
 use lib.ListN.{get_elem?}
-use Rattle.atomic_table.specs.Table.{State, Step, Me, step, stepped, homes_after, Allows, keeps, takes, gives, rest}
-use Rattle.bus_list.specs.declared.history.Entry.TheVariants.{On, Off}
+use Rattle.atomic_table.specs.Table.{State, Me, step, stepped, homes_after, Allows, keeps, takes, gives, rest}
 use Rattle.bus_list.specs.declared.view.Note.{Note}
-use Rattle.bus_list.specs.declared.view.Note.TheVariants.{Edits, Steps, Link, Flag, References, Feed, OwnLink, DummyLink, PredecessorLink, FlagStored, EditsStored}
+use Rattle.bus_list.specs.declared.view.Note.TheVariants.{Steps, References, Feed, OwnLink, DummyLink, PredecessorLink, FlagStored, EditsStored}
 use Rattle.bus_list.specs.declared.view.Phase.{Phase}
 use Rattle.bus_list.specs.declared.view.Phase.TheVariants.{Idle, Linked, Filling, Filled, Inserted, FlagSet, FlagCleared, Unlinked, Quiescent, Unreferenced, Emptying, Emptied}
 use Rattle.bus_list.specs.declared.view.EditorState.{EditorState}
 use Rattle.bus_list.specs.declared.view.PassState.{PassState}
 use Rattle.bus_list.specs.declared.view.View.{View}
 use Rattle.bus_list.specs.Visits.{has, attached_feed}
-use Rattle.bus_list.specs.Invariant.{Memory, ListInvariant, IsDetached, Path, updated, bit, last_of}
+use Rattle.bus_list.specs.Invariant.{Memory, ListInvariant, Path, updated, bit, last_of}
 use Rattle.bus_list.specs.Transitions.{cut, at, filling, filled, inserted, flag_set, flag_cleared, unlinked, quiesced, unreferenced, emptying, emptied, phase_bus}
-use Rattle.bus_list.specs.Rule.{CopiesLinks, memory, HasRole, TableInvariant}
+use Rattle.bus_list.specs.Rule.{CopiesLinks, memory, TableInvariant}
 use Rattle.bus_list.specs.Steps.{Route, after_editor_step, after_link_store, top_slot, payload, StoredOwnLink, OpenedCell, FilledCell, StoredDummyLink, SetFlag, StoredEdits, ClearedFlag, StoredPredecessorLink, LoadedSteps, LoadedReferences, TookCell, EmptiedCell}
 use Rattle.bus_list.proofs.Chains.{cases, has_not, distinct_middle, last_le, path_copy}
 use Rattle.bus_list.proofs.StoreDummyLink.{stores_dummy_link}
 use Rattle.bus_list.proofs.StorePredecessorLink.{stores_predecessor_link}
 use Rattle.bus_list.proofs.StoreFlags.{sets_flag, clears_flag}
 use Rattle.bus_list.proofs.EditorKinds as edit
-use Rattle.bus_list.proofs.TableChanges.{Homes, memory_link, memory_flag, memory_edits, memory_cell, invariant_flag, edits_on, copied_else, copied_link}
+use Rattle.bus_list.proofs.TableChanges.{memory_link, memory_flag, memory_edits, memory_cell, invariant_flag, edits_on, copied_else, copied_link}
 
 pub third : (c : ℕ) → 3 * c / 3 ≡ c
 third c = omega arith

@@ -8,6 +8,7 @@ pub mod StorePredecessorLink
 pub mod StoreFlags
 pub mod EditorKinds
 pub mod PassKinds
+pub mod GivingKinds
 pub mod TableChanges
 pub mod PassSteps
 pub mod EditorSteps

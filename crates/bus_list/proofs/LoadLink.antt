@@ -1,20 +1,18 @@
 -- The pass loads the link of the bus that it stands on.
-use Rattle.std.proofs.Common.{◌≡◌, ◌≢◌, ◌⊎◌, ℕ, suc, ◌+◌, ◌≤◌, ◌<◌, Bool, true, false, cond, ◌||◌, ◌==◌, List, [], ◌∷◌, ◌++◌, length, refl, sym, ap, ◌∙◌, subst, inl, inr, ⊎_elim, arith, true≢false, Option, Some, None, is_some, append_assoc, append-nil}
-use Rattle.std.proofs.lemmas.Bool.{eq-eqb, ne_eqb, eqb-true, cases_eq, cases_Bool, or_parts, or_cases, or_left, or_right}
+use Rattle.std.proofs.Common.{◌≡◌, ◌≢◌, ℕ, ◌≤◌, ◌<◌, true, false, ◌||◌, ◌==◌, List, [], ◌∷◌, ◌++◌, refl, sym, ap, ◌∙◌, subst, inl, inr, ⊎_elim, arith, append_assoc}
+use Rattle.std.proofs.lemmas.Bool.{eq-eqb, ne_eqb, or_left, or_right}
 use Rattle.std.proofs.Math.Bool.{or_comm}
-use mathlib.Core.Option.{some, none}
-use Rattle.bus_list.specs.declared.view.FlagState.{FlagState}
-use Rattle.bus_list.specs.declared.view.FlagState.TheVariants.{NotLoaded, FoundSet, Settled}
+use Rattle.bus_list.specs.declared.view.FlagState.TheVariants.{NotLoaded, Settled}
 use Rattle.bus_list.specs.declared.view.EditorState.{EditorState}
 use Rattle.bus_list.specs.declared.view.PassState.{PassState}
-use Rattle.bus_list.specs.Visits.{has, Distinct, attached_feed, attached_feed_after, buses_of}
-use Rattle.bus_list.specs.Invariant.{Memory, ListInvariant, PassInvariant, VisitInvariant, TailFrom, PhaseFacts, InChainOrRetired, Path, retired, with_editor, never_aimed, never_held, feed_of, AttachedSinceBegin, FedSinceBegin, position, first_of, last_of, bit}
+use Rattle.bus_list.specs.Visits.{has, Distinct, buses_of}
+use Rattle.bus_list.specs.Invariant.{Memory, ListInvariant, VisitInvariant, TailFrom, Path, retired, position, first_of, bit}
 use Rattle.bus_list.specs.Transitions.{aimed, at_end, link_loaded}
-use Rattle.bus_list.proofs.Chains.{same, cases, bool_cases, has_append, has_head, has_cons, has_not, distinct_middle, path_at, last_of_append, each_has}
+use Rattle.bus_list.proofs.Chains.{cases, bool_cases, has_append, has_head, has_cons, distinct_middle, path_at, last_of_append, each_has}
 use Rattle.bus_list.proofs.Phases.{lost, not_settled, never_aimed_end, never_held_of, chain_free}
 
 module _ {F : Type 0} where
-  -- what the pass stands on leads to what the tail begins_visit with
+  -- What the pass stands on leads to what the tail begins with.
   pub leads_on : (N : ℕ) (link : ℕ → ℕ) (w : EditorState F) (x : ℕ) (tail : List ℕ) → Path N link (link N) w.chain → TailFrom N link w x tail → link x ≡ first_of N tail
   leads_on N link w x tail path f = ⊎_elim
       (λ e. ap link (sym e) ∙ path_at N link N f.pre tail (subst (λ c. Path N link (link N) c) f.chain path))

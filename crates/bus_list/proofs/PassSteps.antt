@@ -1,28 +1,27 @@
--- The steps of the pass keep the rule.
-use Rattle.std.proofs.Common.{◌≡◌, ◌≢◌, ◌⊎◌, ℕ, zero, suc, ◌+◌, ◌-◌, ◌*◌, ◌%◌, ◌^◌, ◌≤◌, ◌<◌, Bool, true, false, cond, ◌==◌, List, [], ◌∷◌, ◌++◌, length, get_or, set, refl, sym, ap, ◌∙◌, subst, subst₂, inl, inr, ⊎_elim, arith, Option, Some, None, length-set}
-use Rattle.std.specs.Prelude.{slice_index, slice_set}
-use Rattle.std.proofs.lemmas.Bool.{eq-eqb, ne_eqb}
+-- The steps of the pass, as steps of the table, keep its rule and tell what they have to.
+use Rattle.std.proofs.Common.{◌≡◌, ◌≢◌, ℕ, ◌+◌, ◌-◌, ◌*◌, ◌%◌, ◌^◌, ◌≤◌, ◌<◌, true, false, List, [], ◌∷◌, ◌++◌, set, refl, sym, ap, ◌∙◌, subst, arith, Option, Some, length-set}
+use Rattle.std.specs.Prelude.{slice_index}
 use Rattle.std.proofs.lemmas.List.{set-get_or}
 use mathlib.Core.Option.{some, none, some-injective, some-ne-none}
 use lib.ListN.{get_elem?}
-use Rattle.atomic_table.specs.Table.{State, Step, Me, step, stepped, homes_after, Allows, keeps, takes, gives, rest}
+use Rattle.atomic_table.specs.Table.{State, Me, step, stepped, homes_after, Allows, keeps, takes, gives, rest}
 use Rattle.bus_list.specs.declared.view.Note.{Note}
 use Rattle.bus_list.specs.declared.view.Note.TheVariants.{Edits, Steps, Link, Flag, References, Feed}
 use Rattle.bus_list.specs.declared.view.FlagState.TheVariants.{NotLoaded, FoundSet, Settled}
-use Rattle.bus_list.specs.declared.view.EditorState.{EditorState}
 use Rattle.bus_list.specs.declared.view.PassState.{PassState}
 use Rattle.bus_list.specs.declared.view.View.{View}
 use Rattle.bus_list.specs.declared.visit.Visit.{Visit}
 use Rattle.bus_list.specs.declared.history.Entry.{Entry}
-use Rattle.bus_list.specs.Visits.{attached_feed, LawfulFrom, Lawful}
+use Rattle.bus_list.specs.Visits.{attached_feed, LawfulFrom}
 use Rattle.bus_list.specs.Invariant.{Memory, ListInvariant, updated}
 use Rattle.bus_list.specs.Transitions.{begun, step_entered, step_left, link_loaded, reference_added, feed_returned, reference_dropped, flag_loaded, feed_taken, visit_closed}
-use Rattle.bus_list.specs.Rule.{CopiesLinks, memory, HasRole, TableInvariant}
+use Rattle.bus_list.specs.Rule.{memory, TableInvariant}
 use Rattle.bus_list.specs.Steps.{after_pass_step, Began, EnteredStep, LeftStep, LoadedLink, AddedReference, ReturnedFeed, SubtractedReference, LoadedFlag, TookFeed, Ended}
 use Rattle.bus_list.proofs.LoadLink.{loads_link}
 use Rattle.bus_list.proofs.PassKinds as pass
+use Rattle.bus_list.proofs.GivingKinds as giving
 use Rattle.bus_list.proofs.AcrossEdits.{borrowed_at}
-use Rattle.bus_list.proofs.TableChanges.{Homes, memory_steps, memory_references, memory_cell, invariant_references, walks_on, copied_else}
+use Rattle.bus_list.proofs.TableChanges.{memory_steps, memory_references, memory_cell, invariant_references, walks_on, copied_else}
 
 module _ {F : Type 0} where
   start_seen : (h : List (Entry F)) (low : ℕ) (vs : List (Visit F)) (high : ℕ) → LawfulFrom h low vs high → low ≤ high
@@ -142,7 +141,7 @@ module _ {F : Type 0} where
         let c = invariant N id me role s k at in
         let i = 3 * me.0.reading.held + 1 in
         let n = slice_index s.words i in
-        let r = pass.loads_flag N (memory N s.words s.homes) k.editing me.0.reading c held flag_state in
+        let r = giving.loads_flag N (memory N s.words s.homes) k.editing me.0.reading c held flag_state in
         let x = attached_feed k.editing.history me.0.reading.held in
         let q = flag_loaded x me.0.reading in
         (after_pass_step q (Flag me.0.reading.held n) me.0, keeps, tt, loaded N id me role s k at i q (Flag me.0.reading.held n) r.2, (x, r.0, r.1, refl))
@@ -151,7 +150,7 @@ module _ {F : Type 0} where
     takes_feed_kept i held flag_state borrowed s k slots at fits =
         let c = invariant N id me role s k at in
         let h = me.0.reading.held in
-        let r = pass.takes_feed N (memory N s.words s.homes) k.editing me.0.reading c held flag_state borrowed in
+        let r = giving.takes_feed N (memory N s.words s.homes) k.editing me.0.reading c held flag_state borrowed in
         let q = feed_taken r.0 me.0.reading in (
           after_pass_step q (Feed h) me.0,
           takes h (Some r.0),
@@ -179,4 +178,4 @@ module _ {F : Type 0} where
         let c = invariant N id me role s k at in
         let n = slice_index s.words (3 * N + 1) in
         let q = visit_closed N n me.0.reading in
-        (after_pass_step q (Edits n) me.0, keeps, tt, loaded N id me role s k at (3 * N + 1) q (Edits n) (pass.ends_visit N (memory N s.words s.homes) k.editing me.0.reading c opened aim previous flag_state), (refl, c.last_count))
+        (after_pass_step q (Edits n) me.0, keeps, tt, loaded N id me role s k at (3 * N + 1) q (Edits n) (giving.ends_visit N (memory N s.words s.homes) k.editing me.0.reading c opened aim previous flag_state), (refl, c.last_count))

@@ -1,22 +1,21 @@
--- What follows from the heart, phase by phase.
-use Rattle.std.proofs.Common.{◌≡◌, ◌≢◌, ◌⊎◌, ℕ, suc, ◌+◌, ◌≤◌, ◌<◌, Bool, true, false, cond, ◌||◌, ◌==◌, List, [], ◌∷◌, ◌++◌, length, refl, sym, ap, ◌∙◌, subst, inl, inr, ⊎_elim, arith, true≢false, Option, Some, None, is_some}
-use Rattle.std.proofs.lemmas.Bool.{eq-eqb, ne_eqb, eqb-true, cases_eq, cases_Bool, or_parts, or_cases}
-use mathlib.Core.Option.{some, none}
+-- What follows from the invariant, phase by phase.
+use Rattle.std.proofs.Common.{◌≡◌, ◌≢◌, ℕ, ◌≤◌, ◌<◌, true, false, cond, ◌||◌, ◌==◌, length, refl, sym, ap, ◌∙◌, subst, arith, true≢false, Option, Some, None, is_some}
+use Rattle.std.proofs.lemmas.Bool.{ne_eqb}
 use Rattle.bus_list.specs.declared.view.Phase.{Phase}
 use Rattle.bus_list.specs.declared.view.Phase.TheVariants.{Idle, Linked, Filling, Filled, Inserted, FlagSet, FlagCleared, Unlinked, Quiescent, Unreferenced, Emptying, Emptied}
 use Rattle.bus_list.specs.declared.view.FlagState.{FlagState}
 use Rattle.bus_list.specs.declared.view.FlagState.TheVariants.{NotLoaded, FoundSet, Settled}
 use Rattle.bus_list.specs.declared.view.EditorState.{EditorState}
 use Rattle.bus_list.specs.declared.view.PassState.{PassState}
-use Rattle.bus_list.specs.Visits.{has, attached_feed, attached_feed_after}
-use Rattle.bus_list.specs.Invariant.{Memory, ListInvariant, PhaseFacts, IsDetached, InChainOrRetired, half_attached, retired, with_editor, never_aimed, never_held, stored_feed, feed_of, lag, AttachedSinceBegin}
+use Rattle.bus_list.specs.Visits.{has, attached_feed}
+use Rattle.bus_list.specs.Invariant.{Memory, ListInvariant, PhaseFacts, IsDetached, InChainOrRetired, half_attached, retired, with_editor, never_aimed, never_held, stored_feed, AttachedSinceBegin}
 use Rattle.bus_list.proofs.Visits.{on_all}
-use Rattle.bus_list.proofs.Chains.{same, cases, bool_cases}
+use Rattle.bus_list.proofs.Chains.{cases}
 
 pub lost : {P : Type 0} → true ≡ false → P
 lost e = absurd (true≢false e)
 
--- two states of the flag_state
+-- Two states of a flag are not one.
 pub not_settled : {P : Type 0} (c : FlagState) → c ≡ NotLoaded → c ≡ Settled → P
 not_settled c e q = absurd (cc)
 
@@ -24,7 +23,7 @@ pub not_seen : {P : Type 0} (c : FlagState) → c ≡ NotLoaded → c ≡ FoundS
 not_seen c e q = absurd (cc)
 
 module _ {F : Type 0} where
-  -- a bus that is not attached has no feed in the history
+  -- A bus that is detached has no feed in the history.
   pub detached_not : (N : ℕ) (w : EditorState F) (c b : ℕ) → b ≡ c → IsDetached N w c → is_some (attached_feed w.history b) ≡ false
   detached_not N w c b e off =
       let q : attached_feed w.history b ≡ None = ap (λ x. attached_feed w.history x) e ∙ off.1 in
@@ -33,7 +32,7 @@ module _ {F : Type 0} where
   out_of : (N : ℕ) (w : EditorState F) (c b : ℕ) → b ≡ c → IsDetached N w c → (is_some (attached_feed w.history b) || false) ≡ true → ⊥
   out_of N w c b e off h = true≢false (sym (rw (detached_not N w c b e off) at h))
 
-  -- a bus in the chain is not never_aimed
+  -- The pass may aim at a bus of the chain.
   pub never_aimed_not : (N : ℕ) (link : ℕ → ℕ) (w : EditorState F) (ph : Phase F) (b : ℕ) → PhaseFacts N link w ph → (is_some (attached_feed w.history b) || half_attached ph b) ≡ true → never_aimed ph b ≡ false
   never_aimed_not N link w (Quiescent c x) b d h = cases b c (λ e. absurd (out_of N w c b e d.0 h)) (λ n. ne_eqb b c n)
   never_aimed_not N link w (Unreferenced c x) b d h = cases b c (λ e. absurd (out_of N w c b e d.0 h)) (λ n. ne_eqb b c n)
@@ -62,7 +61,7 @@ module _ {F : Type 0} where
   never_held_of (FlagCleared c x) b h = refl
   never_held_of (Unlinked c x) b h = refl
 
-  -- the dummy is not never_aimed
+  -- The dummy is no bus that was unlinked.
   pub never_aimed_end : (N : ℕ) (link : ℕ → ℕ) (w : EditorState F) (ph : Phase F) → PhaseFacts N link w ph → never_aimed ph N ≡ false
   never_aimed_end N link w (Quiescent c x) d = ne_eqb N c (λ e. let a = d.0.0 in absurd (omega arith))
   never_aimed_end N link w (Unreferenced c x) d = ne_eqb N c (λ e. let a = d.0.0 in absurd (omega arith))
@@ -77,7 +76,7 @@ module _ {F : Type 0} where
   never_aimed_end N link w (FlagCleared c x) d = refl
   never_aimed_end N link w (Unlinked c x) d = refl
 
-  -- the editor does not have the cell of a bus where the pass may be
+  -- The editor does not have the cell of a bus where the pass may be.
   pub with_editor_not : (N : ℕ) (link : ℕ → ℕ) (w : EditorState F) (ph : Phase F) (b : ℕ) → PhaseFacts N link w ph → ((is_some (attached_feed w.history b) || half_attached ph b) || retired ph b) ≡ true → with_editor ph b ≡ false
   with_editor_not N link w (Filling c) b d h = cases b c (λ e. absurd (true≢false (sym (rw (detached_not N w c b e d.0) at h)))) (λ n. ne_eqb b c n)
   with_editor_not N link w (Emptying c) b d h = cases b c (λ e. absurd (true≢false (sym (rw (detached_not N w c b e d.0) at h)))) (λ n. ne_eqb b c n)
@@ -92,7 +91,7 @@ module _ {F : Type 0} where
   with_editor_not N link w (FlagCleared c x) b d h = refl
   with_editor_not N link w (Unlinked c x) b d h = refl
 
-  -- an attached bus is stored_feed with the feed of the history
+  -- The feed of an attached bus is the one of the history.
   none_some : {P : Type 0} (f : F) → None ≡ Some f → P
   none_some f e = absurd (cc)
 
@@ -113,7 +112,7 @@ module _ {F : Type 0} where
   stored_feed_on N link w (Emptying c) b f d e = e
   stored_feed_on N link w (Emptied c) b f d e = e
 
-  -- what was attached ever since is attached attached_feed
+  -- What was attached ever since the visit began is attached now.
   pub ever_now : (w : EditorState F) (p : PassState F) (b : ℕ) → p.last_count ≤ length w.history → AttachedSinceBegin w p b → is_some (attached_feed w.history b) ≡ true
   ever_now w p b le ever = subst (λ (o : Option F). is_some o ≡ true) (on_all w.history (length w.history) b refl) (ever (length w.history) le (omega arith))
 
@@ -121,7 +120,7 @@ module _ {F : Type 0} where
   some_of None e = lost (sym e)
   some_of (Some f) e = (f, refl)
 
-  -- a bus in the chain is wait_for_references for the pass
+  -- The same for a list whose invariant holds.
   pub chain_free : (N : ℕ) (t : Memory F) (w : EditorState F) (p : PassState F) (k : ListInvariant N t w p) (b : ℕ) → b < N → has b w.chain ≡ true → never_aimed w.phase b ≡ false
   chain_free N t w p k b lt h = never_aimed_not N t.link w w.phase b k.chain_invariant.phase_facts (sym (k.chain_invariant.members b lt) ∙ h)
 

@@ -1,12 +1,12 @@
 -- The search for the bus that leads to another.
-use Rattle.std.proofs.Common.{◌≡◌, ◌≢◌, ◌⊎◌, ℕ, suc, ◌+◌, ◌≤◌, ◌<◌, Bool, true, false, cond, ◌==◌, List, [], ◌∷◌, ◌++◌, length, refl, sym, ap, ◌∙◌, subst, arith, true≢false, append_assoc}
+use Rattle.std.proofs.Common.{◌≡◌, ℕ, ◌≤◌, ◌<◌, true, cond, ◌==◌, List, [], ◌∷◌, ◌++◌, length, refl, sym, ap, ◌∙◌, subst, arith, true≢false, append_assoc}
 use Rattle.std.specs.Prelude.{slice_index}
-use Rattle.std.proofs.lemmas.Bool.{eq-eqb, ne_eqb}
+use Rattle.std.proofs.lemmas.Bool.{ne_eqb}
 use Rattle.bus_list.specs.Visits.{has, Distinct, Each}
 use Rattle.bus_list.specs.Invariant.{Path, first_of, last_of}
 use Rattle.bus_list.specs.Seats.{IsPredecessor}
 use Rattle.bus_list.specs.Steps.{Route}
-use Rattle.bus_list.proofs.Chains.{same, cases, has_not, not_append, has_cons, path_at, last_of_append, last_not}
+use Rattle.bus_list.proofs.Chains.{same, has_not, not_append, has_cons, path_at, last_of_append, last_not}
 
 -- What follows the bus c in a list; and the whole list where c is the dummy.
 abbrev pub after : ℕ → List ℕ → List ℕ
@@ -60,7 +60,7 @@ beyond_is N links chain bus at r b = subst (λ x. beyond N x chain ≡ b.post) b
         let lt = last_lt N x pre b.post (subst (Each (λ b. b < N)) e r.inside) in
         rw (ne_eqb (last_of x pre) N (λ q. absurd (omega arith))) (ap (after (last_of x pre)) e ∙ after_last x pre b.post (subst Distinct e r.apart))
 
--- one bus on
+-- One bus on.
 pub record Onward (N : ℕ) (chain : List ℕ) (bus at next : ℕ) : Type 0 where
   pub behind : IsAhead N chain bus next
   pub less : length (beyond N next chain) < length (beyond N at chain)

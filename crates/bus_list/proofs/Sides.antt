@@ -1,20 +1,19 @@
 -- The opening, the split of a view, the join of two, and what a load tells after it.
-use Rattle.std.proofs.Common.{◌≡◌, ◌≢◌, ◌⊎◌, ℕ, zero, suc, ◌+◌, ◌*◌, ◌≤◌, ◌<◌, Bool, true, false, cond, ◌==◌, List, [], ◌∷◌, ◌++◌, map, replicate, length, get_or, set, take, refl, sym, ap, ◌∙◌, subst, inl, inr, ⊎_elim, arith, Option, Some, None, length-set, take_all, get_or-set_same, get_or-set_other}
-use Rattle.std.specs.Prelude.{slice_index, slice_set}
-use Rattle.std.proofs.lemmas.Bool.{eq-eqb, ne_eqb}
+use Rattle.std.proofs.Common.{◌≡◌, ◌≢◌, ◌⊎◌, ℕ, zero, suc, ◌+◌, ◌*◌, ◌<◌, true, false, List, [], ◌∷◌, ◌++◌, map, replicate, length, get_or, set, refl, sym, ap, ◌∙◌, subst, inl, inr, ⊎_elim, arith, Option, None, length-set, take_all, get_or-set_same, get_or-set_other}
+use Rattle.std.specs.Prelude.{slice_index}
+use Rattle.std.proofs.lemmas.Bool.{ne_eqb}
 use Rattle.std.proofs.lemmas.List.{set-get_or}
 use mathlib.Core.Option.{some, none, some-injective, some-ne-none}
 use lib.ListN.{get_elem?}
-use Rattle.atomic_table.specs.Table.{State, Step, Me, step, stepped, Allows, Splits, Joins, opening, keeps}
+use Rattle.atomic_table.specs.Table.{Me, step, Allows, Splits, Joins, opening, keeps}
 use Rattle.atomic_table.proofs.Lists.{at_set, set_else, set_again}
 use Rattle.bus_list.specs.declared.history.Entry.{Entry}
 use Rattle.bus_list.specs.declared.view.Phase.TheVariants.{Idle}
-use Rattle.bus_list.specs.declared.view.FlagState.TheVariants.{Settled}
 use Rattle.bus_list.specs.declared.view.EditorState.{EditorState}
 use Rattle.bus_list.specs.declared.view.PassState.{PassState}
 use Rattle.bus_list.specs.declared.view.View.{View}
-use Rattle.bus_list.specs.Visits.{attached_feed, attached_feed_after}
-use Rattle.bus_list.specs.Invariant.{Memory, ListInvariant, lag}
+use Rattle.bus_list.specs.Visits.{attached_feed}
+use Rattle.bus_list.specs.Invariant.{ListInvariant, lag}
 use Rattle.bus_list.specs.Rule.{first_links, first_words, first_view, new_editor_state, new_pass_state, spent_view, CopiesLinks, memory, HasRole, TableInvariant, editor_part, pass_part, restarted, joined}
 use Rattle.bus_list.specs.Steps.{Learnt}
 use Rattle.bus_list.proofs.Chains.{cases}
@@ -36,7 +35,7 @@ the_one : (k i v : ℕ) → i < k → get_or (set (replicate k 0) i v) i 0 ≡ v
 the_one k i v lt = get_or-set_same (replicate k 0) i v 0 (let z : length (replicate {A = ℕ} k 0) ≡ k = length_zeros k 0 in omega arith)
 
 module _ {A : Type 0} where
-  -- the end of a list that was made longer
+  -- The end of a list that was made longer.
   at_end : (l : List A) (a b : A) (j : ℕ) → get_elem? (l ++ a ∷ []) j ≡ some b → (get_elem? l j ≡ some b) ⊎ ((j ≡ length l) × (a ≡ b))
   at_end [] a b zero e = inr (refl, some-injective a b e)
   at_end [] a b (suc j) e = absurd (some-ne-none b (sym e))

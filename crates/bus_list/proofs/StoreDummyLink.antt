@@ -1,16 +1,15 @@
 -- The editor stores the dummy's link.
-use Rattle.std.proofs.Common.{◌≡◌, ◌≢◌, ◌⊎◌, ℕ, suc, ◌+◌, ◌≤◌, ◌<◌, Bool, true, false, cond, ◌||◌, ◌==◌, List, [], ◌∷◌, ◌++◌, length, refl, sym, ap, ◌∙◌, subst, inl, inr, ⊎_elim, arith, true≢false, Option, Some, None, is_some}
-use Rattle.std.proofs.lemmas.Bool.{eq-eqb, ne_eqb, eqb-true, or_parts, or_cases, or_left, or_right, false_from_ne_true}
-use mathlib.Core.Option.{some, none}
+use Rattle.std.proofs.Common.{◌≡◌, ◌≢◌, ◌⊎◌, ℕ, ◌<◌, Bool, true, false, ◌||◌, List, [], ◌∷◌, ◌++◌, refl, sym, ap, ◌∙◌, inl, inr, arith, Option, is_some}
+use Rattle.std.proofs.lemmas.Bool.{eq-eqb, ne_eqb, or_right, false_from_ne_true}
 use Rattle.bus_list.specs.declared.view.Phase.TheVariants.{Filled, Inserted}
 use Rattle.bus_list.specs.declared.view.EditorState.{EditorState}
 use Rattle.bus_list.specs.declared.view.PassState.{PassState}
-use Rattle.bus_list.specs.Visits.{has, Distinct, Each, attached_feed, attached_feed_after, buses_of}
-use Rattle.bus_list.specs.Invariant.{Memory, ListInvariant, ChainInvariant, PassInvariant, VisitInvariant, TailFrom, InChainOrRetired, retired, with_editor, never_aimed, never_held, feed_of, AttachedSinceBegin, FedSinceBegin, position, first_of, last_of, bit, updated}
-use Rattle.bus_list.proofs.Chains.{same, cases, bool_cases, has_append, has_head, has_cons, has_not, path_front, each_has, updated_else}
-use Rattle.bus_list.proofs.Phases.{lost, detached_not, ever_now}
+use Rattle.bus_list.specs.Visits.{has, attached_feed}
+use Rattle.bus_list.specs.Invariant.{Memory, ListInvariant, VisitInvariant, InChainOrRetired, position, first_of, last_of, updated}
+use Rattle.bus_list.proofs.Chains.{cases, bool_cases, has_cons, path_front, each_has}
+use Rattle.bus_list.proofs.Phases.{lost, detached_not}
 use Rattle.bus_list.proofs.LoadLink.{position_held, position_aim}
-use Rattle.bus_list.proofs.AcrossEdits.{Grown, not_grown, visit_over, pass_invariant_over}
+use Rattle.bus_list.proofs.AcrossEdits.{not_grown, visit_over, pass_invariant_over}
 
 module _ {F : Type 0} where
   abbrev pub filled : ℕ → Option F → EditorState F → EditorState F
@@ -23,7 +22,7 @@ module _ {F : Type 0} where
     borrowed : has c w.chain ≡ false
     borrowed = k.chain_invariant.members c k.chain_invariant.phase_facts.0.0 ∙ (λ i. detached_not N w c c refl k.chain_invariant.phase_facts.0 i || false)
 
-    -- the pass is not there
+    -- The pass is not at the new bus.
     elsewhere : (y : ℕ) → y ≢ N → InChainOrRetired N (filled c x w) y → y ≢ c
     elsewhere y n at e = lost (sym (or_right_false (has y w.chain) (at n).1) ∙ (ap (λ z. has z w.chain) e ∙ borrowed))
       where

@@ -1,17 +1,17 @@
 -- The editor sets and clears a flag, and the history grows.
-use Rattle.std.proofs.Common.{◌≡◌, ◌≢◌, ◌⊎◌, ℕ, suc, ◌+◌, ◌≤◌, ◌<◌, Bool, true, false, cond, ◌||◌, ◌==◌, List, [], ◌∷◌, ◌++◌, length, refl, sym, ap, ◌∙◌, subst, inl, inr, ⊎_elim, arith, true≢false, Option, Some, None, is_some, length-append}
-use Rattle.std.proofs.lemmas.Bool.{eq-eqb, ne_eqb, or_left, or_right, or_from}
+use Rattle.std.proofs.Common.{◌≡◌, ◌≢◌, ℕ, ◌<◌, true, false, cond, ◌||◌, ◌==◌, [], ◌∷◌, ◌++◌, refl, sym, ap, ◌∙◌, arith, Option, Some, is_some, length-append}
+use Rattle.std.proofs.lemmas.Bool.{eq-eqb, ne_eqb, or_left, or_right}
 use mathlib.Core.Option.{some, none}
 use Rattle.bus_list.specs.declared.history.Entry.TheVariants.{On, Off}
 use Rattle.bus_list.specs.declared.view.Phase.TheVariants.{Idle, Inserted, FlagSet, FlagCleared}
 use Rattle.bus_list.specs.declared.view.EditorState.{EditorState}
 use Rattle.bus_list.specs.declared.view.PassState.{PassState}
-use Rattle.bus_list.specs.Visits.{has, attached_feed, attached_feed_after}
-use Rattle.bus_list.specs.Invariant.{Memory, ListInvariant, ChainInvariant, PassInvariant, VisitInvariant, InChainOrRetired, feed_of, cell_of, bit, updated}
+use Rattle.bus_list.specs.Visits.{attached_feed}
+use Rattle.bus_list.specs.Invariant.{Memory, ListInvariant, feed_of, bit, updated}
 use Rattle.bus_list.proofs.Visits.{feed_more, feed_else, feed_attached, feed_detached, named_more, all_lawful_more}
-use Rattle.bus_list.proofs.Chains.{same, cases, updated_else, updated_here}
-use Rattle.bus_list.proofs.Phases.{lost, detached_not}
-use Rattle.bus_list.proofs.AcrossEdits.{Grown, grown, visit_same, pass_invariant_over}
+use Rattle.bus_list.proofs.Chains.{cases, updated_else, updated_here}
+use Rattle.bus_list.proofs.Phases.{lost}
+use Rattle.bus_list.proofs.AcrossEdits.{grown, visit_same, pass_invariant_over}
 
 module _ {F : Type 0} where
   abbrev pub before_set : ℕ → F → EditorState F → EditorState F

@@ -1,16 +1,14 @@
 -- The editor stores the link of the predecessor.
-use Rattle.std.proofs.Common.{◌≡◌, ◌≢◌, ◌⊎◌, ℕ, suc, ◌+◌, ◌≤◌, ◌<◌, Bool, true, false, cond, ◌||◌, ◌==◌, List, [], ◌∷◌, ◌++◌, length, refl, sym, ap, ◌∙◌, subst, inl, inr, ⊎_elim, arith, true≢false, Option, Some, None, is_some, append_assoc}
-use Rattle.std.proofs.lemmas.Bool.{eq-eqb, ne_eqb, eqb-true, or_parts, or_cases, or_left, or_right, or_from, false_from_ne_true}
-use mathlib.Core.Option.{some, none}
+use Rattle.std.proofs.Common.{◌≡◌, ◌≢◌, ℕ, ◌<◌, true, false, ◌||◌, ◌==◌, List, [], ◌∷◌, ◌++◌, refl, sym, ap, ◌∙◌, inl, inr, ⊎_elim, arith, Option, is_some, append_assoc}
+use Rattle.std.proofs.lemmas.Bool.{eq-eqb, ne_eqb, or_cases, or_left, or_right, or_from, false_from_ne_true}
 use Rattle.bus_list.specs.declared.view.Phase.TheVariants.{FlagCleared, Unlinked}
 use Rattle.bus_list.specs.declared.view.EditorState.{EditorState}
 use Rattle.bus_list.specs.declared.view.PassState.{PassState}
-use Rattle.bus_list.specs.Visits.{has, Distinct, Each, attached_feed, attached_feed_after, buses_of}
-use Rattle.bus_list.specs.Invariant.{Memory, ListInvariant, ChainInvariant, PassInvariant, VisitInvariant, TailFrom, InChainOrRetired, retired, with_editor, never_aimed, never_held, feed_of, AttachedSinceBegin, FedSinceBegin, position, first_of, last_of, bit, updated}
-use Rattle.bus_list.proofs.Chains.{same, cases, bool_cases, has_append, has_head, has_cons, has_not, has_cut, has_more, not_less, last_not, distinct_middle, distinct_cut, each_cut, append_split, last_of_append, path_first, path_rest, path_unlink, each_has, updated_else, updated_here}
+use Rattle.bus_list.specs.Visits.{has, attached_feed}
+use Rattle.bus_list.specs.Invariant.{Memory, ListInvariant, VisitInvariant, TailFrom, InChainOrRetired, AttachedSinceBegin, position, first_of, last_of, updated}
+use Rattle.bus_list.proofs.Chains.{cases, bool_cases, has_append, has_cut, has_more, not_less, last_not, distinct_middle, distinct_cut, each_cut, append_split, last_of_append, path_first, path_rest, path_unlink, each_has, updated_else}
 use Rattle.bus_list.proofs.Phases.{lost, detached_not, ever_now}
-use Rattle.bus_list.proofs.LoadLink.{position_held, position_aim}
-use Rattle.bus_list.proofs.AcrossEdits.{Grown, not_grown, visit_over, pass_invariant_over}
+use Rattle.bus_list.proofs.AcrossEdits.{not_grown, visit_over, pass_invariant_over}
 
 module _ {F : Type 0} where
   abbrev pub flag_cleared : ℕ → Option F → List ℕ → EditorState F → EditorState F
@@ -56,7 +54,7 @@ module _ {F : Type 0} where
           (or_cases (has y (xs ++ c ∷ ys)) false a.1)),
     )
 
-    -- the pass stands on the bus, or beyond it
+    -- The pass stands on the bus, or beyond it.
     beyond : (o : VisitInvariant N t.link was p) → p.ended ≡ false → (pre u : List ℕ) → last_of N pre ≡ position N p → pre ≡ xs ++ c ∷ u → ys ≡ u ++ o.tail → VisitInvariant N link is p
     beyond o e pre u at pre_is ys_is =
         visit_over N t.link link was is p o o.tail (not_grown was is refl)
@@ -75,7 +73,7 @@ module _ {F : Type 0} where
           at = inl (last_of_append N xs (y ∷ u) ∙ at);
         }
 
-    -- it stands before the bus
+    -- The pass stands before the bus.
     before : (o : VisitInvariant N t.link was p) → p.ended ≡ false → (pre u : List ℕ) → last_of N pre ≡ position N p → o.tail ≡ u ++ c ∷ ys → xs ≡ pre ++ u → VisitInvariant N link is p
     before o e pre u at tail_is xs_is =
         visit_over N t.link link was is p o (u ++ ys) (not_grown was is refl)

@@ -1,10 +1,10 @@
--- From the heart to the rule of the table.
-use Rattle.std.proofs.Common.{◌≡◌, ◌≢◌, ◌⊎◌, ℕ, zero, suc, ◌+◌, ◌*◌, ◌≤◌, ◌<◌, Bool, true, false, cond, ◌==◌, List, [], ◌∷◌, ◌++◌, length, get_or, set, refl, sym, ap, ◌∙◌, subst, inl, inr, ⊎_elim, arith, Option, Some, None, length-set, get_or-set_same, get_or-set_other}
+-- Stores to words, and changes of views, from the invariant of the list to the rule of the table.
+use Rattle.std.proofs.Common.{◌≡◌, ◌≢◌, ℕ, ◌+◌, ◌*◌, ◌≤◌, ◌<◌, true, cond, ◌==◌, List, length, get_or, set, refl, sym, ap, ◌∙◌, subst, ⊎_elim, arith, Option, length-set, get_or-set_same, get_or-set_other}
 use Rattle.std.specs.Prelude.{slice_index}
 use Rattle.std.proofs.lemmas.Bool.{eq-eqb, ne_eqb}
 use mathlib.Core.Option.{some, none, some-injective, some-ne-none}
 use lib.ListN.{get_elem?}
-use Rattle.atomic_table.specs.Table.{State, Step, Me, stepped, homes_after}
+use Rattle.atomic_table.specs.Table.{State}
 use Rattle.atomic_table.proofs.Lists.{at_set, set_here, set_else}
 use Rattle.bus_list.specs.declared.view.EditorState.{EditorState}
 use Rattle.bus_list.specs.declared.view.PassState.{PassState}
@@ -14,7 +14,7 @@ use Rattle.bus_list.specs.Invariant.{Memory, ListInvariant, updated}
 use Rattle.bus_list.specs.Rule.{CopiesLinks, memory, HasRole, TableInvariant}
 use Rattle.bus_list.proofs.Chains.{cases, updated_else}
 
--- a list after a write
+-- A list after a write.
 pub index_updated : (l : List ℕ) (i v j : ℕ) → i < length l → get_or (set l i v) j 0 ≡ cond (j == i) v (get_or l j 0)
 index_updated l i v j lt = cases j i
     (λ (e : j ≡ i). rw (eq-eqb j i e) (ap (λ k. get_or (set l i v) k 0) e ∙ get_or-set_same l i v 0 lt))
@@ -35,7 +35,7 @@ far l i v j n = get_or-set_other l i j v 0 n
 near : (l : List ℕ) (i v j : ℕ) → j ≡ i → i < length l → get_or (set l i v) j 0 ≡ v
 near l i v j e lt = ap (λ k. get_or (set l i v) k 0) e ∙ get_or-set_same l i v 0 lt
 
--- a word other than a link leaves the copy
+-- A store to a word other than a link leaves the copy of the links.
 pub copied_else : (N : ℕ) (ws links : List ℕ) (i v : ℕ) → ((b : ℕ) → b ≤ N → 3 * b ≢ i) → CopiesLinks N ws links → CopiesLinks N (set ws i v) links
 copied_else N ws links i v n k = record { size = k.size; same = λ b le. far ws i v (3 * b) (n b le) ∙ k.same b le }
 
@@ -48,7 +48,7 @@ copied_link N ws links c v cl size k = record {
 }
 
 module _ {F : Type 0} where
-  -- each kind of word, and the cells
+  -- A store to a word of each kind, and to a cell, as a change of the memory.
   pub memory_link : (N c v : ℕ) (ws : List ℕ) (hs : Homes F) → c ≤ N → length ws ≡ 3 * N + 3 → memory N (set ws (3 * c) v) hs ≡ record (memory N ws hs) { link = updated (memory N ws hs).link c v }
   memory_link N c v ws hs le size = λ i. record {
     edits = far ws (3 * c) v (3 * N + 1) (λ e. absurd (omega arith)) i;
@@ -94,7 +94,7 @@ module _ {F : Type 0} where
           (λ (e : b ≡ c). rw (eq-eqb b c e) (near ws (3 * c + 2) v (3 * b + 2) (omega arith) (omega arith)))
           (λ (n : b ≢ c). rw (ne_eqb b c n) (far ws (3 * c + 2) v (3 * b + 2) (λ e. n (omega arith))))
 
-  -- for the two counters: the flag and the reference count of the dummy are none, so `flag` and `references` exchange_cell only where no fact speaks of them
+  -- The two counters lie where the dummy's flag and reference count would be, so `flag` and `references` change where no fact speaks of them.
   pub memory_edits : (N v : ℕ) (ws : List ℕ) (hs : Homes F) → length ws ≡ 3 * N + 3 → memory N (set ws (3 * N + 1) v) hs ≡ record (memory N ws hs) { edits = v; flag = updated (memory N ws hs).flag N v }
   memory_edits N v ws hs size = λ i. record {
     edits = near ws (3 * N + 1) v (3 * N + 1) refl (omega arith) i;
@@ -135,7 +135,7 @@ module _ {F : Type 0} where
     cell = λ b. home_updated hs c v b lt i;
   }
 
-  -- words that no fact speaks of
+  -- No fact speaks of a flag or a reference count of the dummy.
   pub invariant_flag : (N : ℕ) (t : Memory F) (w : EditorState F) (p : PassState F) (v : ℕ) → ListInvariant N t w p → ListInvariant N (record t { flag = updated t.flag N v }) w p
   invariant_flag N t w p v k = record {
     chain_invariant = record {
@@ -171,7 +171,7 @@ module _ {F : Type 0} where
     last_count = k.last_count;
   }
 
-  -- the editor's part of a view changes
+  -- The editor's part of a view changes.
   pub edits_on : (N : ℕ) (s : State (Option F) (View F)) (k : TableInvariant N s) (id : ℕ) (v : View F) → get_elem? s.views id ≡ some v → v.is_editor ≡ true
       → (ws : List ℕ) (hs : Homes F) (links : List ℕ) (w : EditorState F) (notes : List Note)
       → length ws ≡ 3 * N + 3 → length hs ≡ N → ListInvariant N (memory N ws hs) w k.reading → CopiesLinks N ws links
@@ -195,7 +195,7 @@ module _ {F : Type 0} where
             (at_set s.views id j (record v { links = links; editing = w; notes = notes }) u e);
       }
 
-  -- the pass's part
+  -- The pass's part of a view changes.
   pub walks_on : (N : ℕ) (s : State (Option F) (View F)) (k : TableInvariant N s) (id : ℕ) (v : View F) → get_elem? s.views id ≡ some v → v.reads ≡ true
       → (ws : List ℕ) (hs : Homes F) (p : PassState F) (notes : List Note)
       → length ws ≡ 3 * N + 3 → length hs ≡ N → ListInvariant N (memory N ws hs) k.editing p → CopiesLinks N ws k.links

@@ -1,10 +1,10 @@
--- A pass_invariant of buses ends_visit.
+-- Each step of a visit leaves one bus fewer to be walked.
 use Rattle.std.proofs.Common.{Option, Some, None, Bool, not, is_some, ◌≡◌, ◌≢◌, ℕ, zero, suc, ◌+◌, ◌≤◌, ◌<◌, true, false, cond, ◌==◌, List, [], ◌∷◌, ◌++◌, sym, ap, ◌∙◌, arith}
-use Rattle.std.proofs.lemmas.Bool.{eq-eqb, ne_eqb}
+use Rattle.std.proofs.lemmas.Bool.{ne_eqb}
 use Rattle.bus_list.specs.declared.view.PassState.{PassState}
 use Rattle.bus_list.specs.Visits.{has, buses_of}
 use Rattle.bus_list.specs.PassStates.{unwalked, reached, feed_read, SteppedOn}
-use Rattle.bus_list.proofs.Chains.{cases, has_append, has_cons, has_end, bool_cases, has_snoc}
+use Rattle.bus_list.proofs.Chains.{cases, has_append, has_cons, has_end, bool_cases}
 
 has_snoc_else : (b c : ℕ) (xs : List ℕ) → b ≢ c → has b (xs ++ c ∷ []) ≡ has b xs
 has_snoc_else b c xs n = has_append b xs (c ∷ []) ∙ bool_cases (has b xs) (λ e. rw e refl_true) (λ e. rw e (has_cons b c [] n))

@@ -1,18 +1,18 @@
 -- The history grows, and what was lawful stays lawful.
-use Rattle.std.proofs.Common.{◌≡◌, ℕ, suc, ◌+◌, ◌≤◌, Bool, true, false, cond, ◌==◌, List, [], ◌∷◌, ◌++◌, map, length, take, Option, Some, None, is_some, refl, sym, ap, ◌∙◌, subst, arith, length-append, append_assoc, take_all, ◌≢◌, ◌<◌, ⊎_elim}
+use Rattle.std.proofs.Common.{◌≡◌, ℕ, suc, ◌≤◌, true, List, [], ◌∷◌, ◌++◌, length, Option, Some, None, is_some, refl, sym, ap, ◌∙◌, subst, arith, length-append, take_all, ◌≢◌, ◌<◌, ⊎_elim}
 use Rattle.std.proofs.lemmas.Bool.{eq-eqb, ne_eqb, cases_lt}
 use Rattle.std.proofs.lemmas.List.{take-append-le}
 use Rattle.bus_list.specs.declared.history.Entry.{Entry}
 use Rattle.bus_list.specs.declared.history.Entry.TheVariants.{On, Off}
 use Rattle.bus_list.specs.declared.visit.Visit.{Visit}
-use Rattle.bus_list.specs.Visits.{has, Distinct, Each, feed_changed, replayed, attached_feed, attached_feed_after, buses_of, Within, Stood, Always, Lawful, LawfulFrom}
+use Rattle.bus_list.specs.Visits.{Each, feed_changed, replayed, attached_feed, attached_feed_after, Within, Stood, Always, Lawful, LawfulFrom}
 
 module _ {F : Type 0} where
   pub replayed-append : (xs ys : List (Entry F)) (b : ℕ) (x : Option F) → replayed (xs ++ ys) b x ≡ replayed ys b (replayed xs b x)
   replayed-append [] ys b x = refl
   replayed-append (e ∷ es) ys b x = replayed-append es ys b (feed_changed e b x)
 
-  -- what was attached at a moment is so in the longer history
+  -- What was attached at a moment is so in the longer history.
   pub on_before : (h t : List (Entry F)) (m b : ℕ) → m ≤ length h → attached_feed_after (h ++ t) m b ≡ attached_feed_after h m b
   on_before h t m b le = ap (λ (k : List (Entry F)). attached_feed k b) (take-append-le m h t le)
 
@@ -49,12 +49,12 @@ module _ {F : Type 0} where
   all_lawful_more h t low [] high l = l
   all_lawful_more h t low (v ∷ vs) high l = (l.0, lawful_more h t v l.1, all_lawful_more h t v.until vs high l.2)
 
-  -- the last may end no later than a later moment
+  -- The last visit ends no later than a later moment.
   pub lawful_later : (h : List (Entry F)) (low : ℕ) (vs : List (Visit F)) (high later : ℕ) → high ≤ later → LawfulFrom h low vs high → LawfulFrom h low vs later
   lawful_later h low [] high later le l = omega arith
   lawful_later h low (v ∷ vs) high later le l = (l.0, l.1, lawful_later h v.until vs high later le l.2)
 
-  -- one more visit
+  -- One more visit.
   pub lawful_snoc : (h : List (Entry F)) (low : ℕ) (vs : List (Visit F)) (high : ℕ) (v : Visit F) → LawfulFrom h low vs high → high ≤ v.from → Lawful h v → LawfulFrom h low (vs ++ v ∷ []) v.until
   lawful_snoc h low [] high v l le new = (omega arith, new, lt_refl v.until)
     where
@@ -62,7 +62,7 @@ module _ {F : Type 0} where
       lt_refl n = omega arith
   lawful_snoc h low (u ∷ us) high v l le new = (l.0, l.1, lawful_snoc h u.until us high v l.2 le new)
 
-  -- the bus of an entry
+  -- The bus of an entry.
   abbrev pub bus_of : Entry F → ℕ
   bus_of (On c f) = c
   bus_of (Off c) = c
@@ -71,7 +71,7 @@ module _ {F : Type 0} where
   moved_else (On c f) b x n = rw (ne_eqb b c n) refl
   moved_else (Off c) b x n = rw (ne_eqb b c n) refl
 
-  -- only buses below N are named
+  -- Only buses below N are named.
   pub named_more : (N : ℕ) (h : List (Entry F)) (e : Entry F) → bus_of e < N → ((b : ℕ) → N ≤ b → (m : ℕ) → attached_feed_after h m b ≡ None) → (b : ℕ) → N ≤ b → (m : ℕ) → attached_feed_after (h ++ e ∷ []) m b ≡ None
   named_more N h e lt named b le m = ⊎_elim
       (λ (q : m < suc (length h)). on_before h (e ∷ []) m b (omega arith) ∙ named b le m)

@@ -1,18 +1,18 @@
--- The rule of a bus list, over plain functions: what the words and the cells are, given what the editor and the pass know.
--- N is the number of buses, and stands for the dummy: its link leads to the first bus, and a link that is N leads to the end.
-use Rattle.std.specs.Prelude.{◌≡◌, ◌≢◌, ◌⊎◌, ℕ, suc, ◌+◌, ◌≤◌, ◌<◌, Bool, true, false, cond, ◌||◌, ◌&&◌, ◌==◌, List, [], ◌∷◌, ◌++◌, length, Option, Some, None, is_some}
+-- What holds of a bus list between any two steps: what its words and cells are, given what the editor and the pass know.
+-- N is the number of buses. It stands for the dummy, whose link leads to the first bus, and for the end. Where the pass holds no bus,
+-- or aims at none, N stands for that too.
+use Rattle.std.specs.Prelude.{◌≡◌, ◌≢◌, ◌⊎◌, ℕ, ◌+◌, ◌≤◌, ◌<◌, Bool, true, false, cond, ◌||◌, ◌==◌, List, [], ◌∷◌, ◌++◌, length, Option, Some, None, is_some}
 use mathlib.Core.Option.{some, none}
 use Rattle.bus_list.specs.declared.history.Entry.{Entry}
-use Rattle.bus_list.specs.declared.history.Entry.TheVariants.{On, Off}
+use Rattle.bus_list.specs.declared.history.Entry.TheVariants.{Off}
 use Rattle.bus_list.specs.declared.view.Phase.{Phase}
 use Rattle.bus_list.specs.declared.view.Phase.TheVariants.{Idle, Linked, Filling, Filled, Inserted, FlagSet, FlagCleared, Unlinked, Quiescent, Unreferenced, Emptying, Emptied}
-use Rattle.bus_list.specs.declared.view.FlagState.{FlagState}
 use Rattle.bus_list.specs.declared.view.FlagState.TheVariants.{NotLoaded, FoundSet, Settled}
 use Rattle.bus_list.specs.declared.view.EditorState.{EditorState}
 use Rattle.bus_list.specs.declared.view.PassState.{PassState}
 use Rattle.bus_list.specs.Visits.{has, Distinct, Each, attached_feed, attached_feed_after, buses_of, LawfulFrom}
 
--- the words and the cells. A cell that is borrowed is `none`
+-- The words and the cells, by bus. A cell that a seat has taken is `some none`.
 pub record Memory (F : Type 0) : Type 0 where
   pub edits : ℕ
   pub steps : ℕ
@@ -21,14 +21,15 @@ pub record Memory (F : Type 0) : Type 0 where
   pub references : ℕ → ℕ
   pub cell : ℕ → mathlib.Core.Option.Option (mathlib.Core.Option.Option (Option F))
 
+-- A flag or a count that is 0 or 1.
 abbrev pub bit : Bool → ℕ
 bit b = cond b 1 0
 
--- the function f, but v at c
+-- The function f, but v at c.
 abbrev pub updated : {A : Type 0} → (ℕ → A) → ℕ → A → ℕ → A
 updated f c v x = cond (x == c) v (f x)
 
--- the first of a list, or z where it is empty; the last likewise
+-- The first of a list, or z where it is empty. The last likewise.
 abbrev pub first_of : ℕ → List ℕ → ℕ
 first_of z [] = z
 first_of z (x ∷ xs) = x
@@ -37,13 +38,13 @@ abbrev pub last_of : ℕ → List ℕ → ℕ
 last_of z [] = z
 last_of z (x ∷ xs) = last_of x xs
 
--- along the links from a on lie the list's buses, and then the end
+-- Along the links from a on lie the buses of the list, and then the end.
 abbrev pub Path : ℕ → (ℕ → ℕ) → ℕ → List ℕ → Type 0
 Path N link a [] = a ≡ N
 Path N link a (x ∷ xs) = (a ≡ x) × Path N link (link x) xs
 
 module _ {F : Type 0} where
-  -- how many entries the count is behind
+  -- How many entries of the history are not counted yet.
   abbrev pub lag : Phase F → ℕ
   lag Idle = 0
   lag (Linked c) = 0
@@ -58,7 +59,7 @@ module _ {F : Type 0} where
   lag (Emptying c) = 1
   lag (Emptied c) = 1
 
-  -- the bus is in the chain though it is not attached: it is being updated in or emptied borrowed
+  -- The bus is in the chain though it is not attached: it is being put in or taken out.
   abbrev pub half_attached : Phase F → ℕ → Bool
   half_attached Idle b = false
   half_attached (Linked c) b = false
@@ -73,7 +74,7 @@ module _ {F : Type 0} where
   half_attached (Emptying c) b = false
   half_attached (Emptied c) b = false
 
-  -- a detach has unlinked the bus, and the pass may still be there
+  -- A detach has unlinked the bus, and the pass may still be there.
   abbrev pub retired : Phase F → ℕ → Bool
   retired Idle b = false
   retired (Linked c) b = false
@@ -88,7 +89,7 @@ module _ {F : Type 0} where
   retired (Emptying c) b = false
   retired (Emptied c) b = false
 
-  -- the editor has the bus's cell
+  -- The editor has the bus's cell.
   abbrev pub with_editor : Phase F → ℕ → Bool
   with_editor Idle b = false
   with_editor (Linked c) b = false
@@ -103,7 +104,7 @@ module _ {F : Type 0} where
   with_editor (Emptying c) b = b == c
   with_editor (Emptied c) b = false
 
-  -- the feed that the editor last updated in for the bus and has not emptied, where y is the one with which it is attached
+  -- The feed that the editor last put in for the bus and has not taken out, where y is the one with which it is attached.
   abbrev pub stored_feed : Phase F → ℕ → Option F → Option F
   stored_feed Idle b y = y
   stored_feed (Linked c) b y = y
@@ -118,25 +119,27 @@ module _ {F : Type 0} where
   stored_feed (Emptying c) b y = y
   stored_feed (Emptied c) b y = y
 
+  -- The feed in the bus's cell, unless the cell is taken.
   abbrev pub feed_of : EditorState F → ℕ → Option F
   feed_of w b = stored_feed w.phase b (attached_feed w.history b)
 
+  -- The bus's cell: with the pass, with the editor, or at home.
   abbrev pub cell_of : EditorState F → PassState F → ℕ → mathlib.Core.Option.Option (Option F)
   cell_of w p b = cond (b == p.borrowed) none (cond (with_editor w.phase b) none (some (feed_of w b)))
 
-  -- the bus is not attached
+  -- The bus is not attached.
   abbrev pub IsDetached : ℕ → EditorState F → ℕ → Type 0
   IsDetached N w c = (c < N) × (attached_feed w.history c ≡ None)
 
-  -- the link of the bus leads into the chain or to its end
+  -- The link of the bus leads into the chain or to its end.
   abbrev pub LeadsIntoChain : ℕ → (ℕ → ℕ) → EditorState F → ℕ → Type 0
   LeadsIntoChain N link w c = (pre : List ℕ) × (post : List ℕ) × (w.chain ≡ pre ++ post) × (link c ≡ first_of N post)
 
-  -- the last entry took the bus off, and it had this feed before
+  -- The last entry detached the bus, which had this feed before.
   abbrev pub WasDetachedWith : EditorState F → ℕ → Option F → Type 0
   WasDetachedWith w c x = (h : List (Entry F)) × (w.history ≡ h ++ Off c ∷ []) × (attached_feed h c ≡ x)
 
-  -- what is known in each phase
+  -- What is known in each phase of an edit.
   abbrev pub PhaseFacts : ℕ → (ℕ → ℕ) → EditorState F → Phase F → Type 0
   PhaseFacts N link w Idle = Unit {0}
   PhaseFacts N link w (Linked c) = IsDetached N w c × (link c ≡ link N)
@@ -151,7 +154,7 @@ module _ {F : Type 0} where
   PhaseFacts N link w (Emptying c) = IsDetached N w c × LeadsIntoChain N link w c
   PhaseFacts N link w (Emptied c) = IsDetached N w c × LeadsIntoChain N link w c
 
-  -- the pass does not aim at the bus, since a detach unlinked it and then found no step
+  -- The pass does not aim at the bus: a detach has unlinked it and then found the step counter 0.
   abbrev pub never_aimed : Phase F → ℕ → Bool
   never_aimed Idle b = false
   never_aimed (Linked c) b = false
@@ -166,7 +169,7 @@ module _ {F : Type 0} where
   never_aimed (Emptying c) b = b == c
   never_aimed (Emptied c) b = b == c
 
-  -- nor does it add_reference it, since it then found no reference
+  -- Nor does the pass hold it: the detach has then found its reference count 0.
   abbrev pub never_held : Phase F → ℕ → Bool
   never_held Idle b = false
   never_held (Linked c) b = false
@@ -181,11 +184,11 @@ module _ {F : Type 0} where
   never_held (Emptying c) b = b == c
   never_held (Emptied c) b = b == c
 
-  -- where the pass holds or aims at the bus x, it is in the chain, or is the one that a detach has unlinked
+  -- If x is a bus, it is in the chain, or is the one that a detach has unlinked.
   abbrev pub InChainOrRetired : ℕ → EditorState F → ℕ → Type 0
   InChainOrRetired N w x = x ≢ N → (x < N) × ((has x w.chain || retired w.phase x) ≡ true)
 
-  -- what the pass has of its own
+  -- What the pass holds and aims at, and whose cell it has.
   pub record PassInvariant (N : ℕ) (w : EditorState F) (p : PassState F) : Type 0 where
     pub aims : p.aim ≢ N → (p.stepping ≡ true) × (p.flag_state ≡ Settled)
     pub differ : p.held ≢ N → p.held ≢ p.previous
@@ -198,24 +201,27 @@ module _ {F : Type 0} where
     pub held_free : never_held w.phase p.held ≡ false
     pub old_free : never_held w.phase p.previous ≡ false
 
-  -- the bus that the pass stands attached_feed_after, or the dummy
+  -- The bus that the pass stands on, or the dummy.
   abbrev pub position : ℕ → PassState F → ℕ
   position N p = cond (p.aim == N) p.held p.aim
 
-  -- the tail is what follows along the links
+  -- The tail is what follows x in the chain; or, where x was unlinked, the part of the chain that its link leads to.
   pub record TailFrom (N : ℕ) (link : ℕ → ℕ) (w : EditorState F) (x : ℕ) (tail : List ℕ) : Type 0 where
     pub pre : List ℕ
     pub chain : w.chain ≡ pre ++ tail
     pub at : (last_of N pre ≡ x) ⊎ ((retired w.phase x ≡ true) × (link x ≡ first_of N tail))
 
-  -- the bus was attached ever since the visit began
+  -- The bus was attached at each moment since the visit began.
   abbrev pub AttachedSinceBegin : EditorState F → PassState F → ℕ → Type 0
   AttachedSinceBegin w p b = (m : ℕ) → p.last_count ≤ m → m ≤ length w.history → is_some (attached_feed_after w.history m b) ≡ true
 
-  -- the bus had the feed at some moment since the visit began
+  -- The bus was attached with the feed at some moment since the visit began.
   abbrev pub FedSinceBegin : EditorState F → PassState F → ℕ × F → Type 0
   FedSinceBegin w p x = (m : ℕ) × (p.last_count ≤ m) × (m ≤ length w.history) × (attached_feed_after w.history m x.0 ≡ Some x.1)
 
+  -- An open visit. `tail` is what is still to be visited: the chain behind the bus that the pass stands on. None of it was walked, and
+  -- each bus that was attached ever since the visit began was walked, or is aimed at, or is in the tail. Each such bus that was walked
+  -- was given, unless it is held and its flag isn't loaded yet.
   pub record VisitInvariant (N : ℕ) (link : ℕ → ℕ) (w : EditorState F) (p : PassState F) : Type 0 where
     pub tail : List ℕ
     pub place : p.ended ≡ false → TailFrom N link w (position N p) tail
@@ -233,7 +239,7 @@ module _ {F : Type 0} where
     pub held_not_given : p.held ≢ N → p.flag_state ≡ NotLoaded → has p.held (buses_of p.given) ≡ false
     pub seen_last : p.held ≢ N → p.flag_state ≡ FoundSet → (f : F) × (ps : List (ℕ × F)) × (p.given ≡ ps ++ (p.held, f) ∷ []) × (feed_of w p.held ≡ Some f)
 
-  -- what the editor keeps
+  -- What the editor keeps: the links lead along the attached buses, each once, and at most one more.
   pub record ChainInvariant (N edits : ℕ) (link flag : ℕ → ℕ) (w : EditorState F) : Type 0 where
     pub count : edits + lag w.phase ≡ length w.history
     pub flags : (b : ℕ) → b < N → flag b ≡ bit (is_some (attached_feed w.history b))
@@ -244,6 +250,8 @@ module _ {F : Type 0} where
     pub named : (b : ℕ) → N ≤ b → (m : ℕ) → attached_feed_after w.history m b ≡ None
     pub phase_facts : PhaseFacts N link w w.phase
 
+  -- All of it. The step counter is 1 in a step, a reference count is 1 while the pass holds the bus, and the visits that have ended
+  -- were lawful.
   pub record ListInvariant (N : ℕ) (t : Memory F) (w : EditorState F) (p : PassState F) : Type 0 where
     pub chain_invariant : ChainInvariant N t.edits t.link t.flag w
     pub steps : t.steps ≡ bit p.stepping

@@ -1,7 +1,7 @@
 -- The kinds of step, one definition each: what a step of the kind makes of its seat, and which fact it tells.
 -- `s` is the step that is made, `me` its seat before (the view and the slots that it holds), `n` the word that it found or stored,
 -- `then` the seat after it. Each adds its note to the view.
-use Rattle.std.specs.Prelude.{◌≡◌, ℕ, ◌+◌, ◌*◌, ◌/◌, ◌≤◌, ◌<◌, true, false, cond, ◌||◌, ◌==◌, List, [], ◌∷◌, ◌++◌, length, slice_index, slice_set, Option, Some, None, is_some}
+use Rattle.std.specs.Prelude.{◌≡◌, ℕ, ◌/◌, ◌≤◌, ◌<◌, true, false, ◌||◌, ◌==◌, List, [], ◌∷◌, ◌++◌, slice_index, slice_set, Option, Some, None, is_some}
 use Rattle.atomic_table.specs.Table.{Step, Me, rest}
 use Rattle.bus_list.specs.declared.view.Note.{Note}
 use Rattle.bus_list.specs.declared.view.Note.TheVariants.{Edits, Steps, Link, Flag, References, Feed, OwnLink, DummyLink, PredecessorLink, FlagStored, EditsStored}

@@ -1,4 +1,3 @@
-use Rattle.std.proofs.Common.{◌≡◌, ℕ}
 use Rattle.bus_list.specs.Seats.{SameSeat, OnlyPhase}
 use Rattle.bus_list.proofs.grace_period.wait_for_references.Given as goal
 

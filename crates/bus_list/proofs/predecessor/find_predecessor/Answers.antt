@@ -1,4 +1,3 @@
-use Rattle.std.proofs.Common.{◌≡◌, ℕ, ◌<◌, ◌≤◌}
 use Rattle.bus_list.proofs.PredecessorSearch.{onward, found}
 use Rattle.bus_list.proofs.predecessor.find_predecessor.Goals as goal
 

@@ -1,4 +1,4 @@
-use Rattle.std.proofs.Common.{◌≡◌, ℕ, length}
+use Rattle.std.proofs.Common.{length}
 use Rattle.bus_list.proofs.PredecessorSearch.{beyond, IsAhead}
 use Rattle.bus_list.proofs.predecessor.find_predecessor.Given as goal
 

@@ -1,4 +1,4 @@
-use Rattle.std.proofs.Common.{Option, ◌≡◌, List, ℕ, [], ◌∷◌, Some, ap, ◌∙◌}
+use Rattle.std.proofs.Common.{ap, ◌∙◌}
 use Rattle.bus_list.specs.declared.view.Phase.TheVariants.{Filled}
 use Rattle.bus_list.specs.Transitions.{inserted}
 use Rattle.bus_list.specs.Steps.{top_slot}

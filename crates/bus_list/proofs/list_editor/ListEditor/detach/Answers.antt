@@ -1,5 +1,4 @@
-use Rattle.std.proofs.Common.{Option, ◌≡◌, List, ℕ, [], ◌∷◌, Some, ap, ◌∙◌}
-use Rattle.bus_list.specs.declared.view.Phase.TheVariants.{FlagCleared, Unlinked, Quiescent, Unreferenced}
+use Rattle.std.proofs.Common.{◌∷◌, ap, ◌∙◌}
 use Rattle.bus_list.specs.Visits.{attached_feed}
 use Rattle.bus_list.specs.Transitions.{unlinked, quiesced, unreferenced}
 use Rattle.bus_list.specs.Steps.{payload}

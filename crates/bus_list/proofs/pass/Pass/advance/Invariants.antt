@@ -1,4 +1,4 @@
-use Rattle.std.proofs.Common.{◌≡◌, ℕ, ◌<◌, List, [], ◌∷◌, ◌++◌, false}
+use Rattle.std.proofs.Common.{◌≡◌, false}
 use Rattle.bus_list.specs.PassStates.{SameVisit, NotesGrow, unwalked}
 use Rattle.bus_list.proofs.pass.Pass.advance.Given as goal
 

@@ -1,5 +1,5 @@
-use Rattle.std.proofs.Common.{Option, Bool, not, ◌≡◌, ℕ, List, [], ◌∷◌, ◌++◌, true, false, Some, None, ap, ◌∙◌, sym, subst}
-use Rattle.bus_list.specs.Visits.{has, buses_of}
+use Rattle.std.proofs.Common.{Bool, not, [], ◌∷◌, ◌++◌, ap, ◌∙◌, sym, subst}
+use Rattle.bus_list.specs.Visits.{has}
 use Rattle.bus_list.specs.PassStates.{SteppedOn, feed_read}
 use Rattle.bus_list.proofs.Unwalked.{stepped_on, reached_walked, reached_given}
 use Rattle.bus_list.proofs.pass.Pass.visit_step.Goals as goal

@@ -1,4 +1,4 @@
-use Rattle.std.proofs.Common.{Option, None, ◌≡◌, ℕ, List, sym, ap, ◌∙◌, subst, replicate, set, ◌*◌}
+use Rattle.std.proofs.Common.{Option, None, ◌≡◌, sym, ap, ◌∙◌, subst, replicate, set, ◌*◌}
 use Rattle.atomic_table.specs.Table.{opening}
 use Rattle.bus_list.specs.Rule.{first_view, first_words, TableInvariant}
 use Rattle.bus_list.proofs.Sides.{opens}

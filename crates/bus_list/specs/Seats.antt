@@ -1,13 +1,15 @@
 -- The seats of a list's table: whose they are, and what a call leaves as it was.
-use Rattle.std.specs.Prelude.{◌≡◌, ℕ, List, ◌∷◌, ◌++◌, Option, true}
+use Rattle.std.specs.Prelude.{◌≡◌, ℕ, List, [], ◌∷◌, ◌++◌, Option, true}
 use Rattle.std.specs.Arc.{arc_value}
 use Rattle.atomic_table.specs.declared.shared.Seat.{Seat}
 use Rattle.atomic_table.specs.Table.{Me}
 use Rattle.bus_list.specs.declared.view.Phase.{Phase}
+use Rattle.bus_list.specs.declared.view.Phase.TheVariants.{Idle, FlagCleared}
 use Rattle.bus_list.specs.declared.view.View.{View}
 use Rattle.bus_list.specs.declared.table.ListTable.{ListTable}
 use Rattle.bus_list.specs.Invariant.{last_of}
-use Rattle.bus_list.specs.Transitions.{at}
+use Rattle.bus_list.specs.Transitions.{at, flag_cleared, unlinked}
+use Rattle.bus_list.specs.Visits.{attached_feed}
 
 -- The bus stands in the chain, and this is what leads to it: the bus before it, or the dummy, which is N.
 abbrev pub IsPredecessor : ℕ → ℕ → ℕ → List ℕ → Type 0
@@ -41,3 +43,20 @@ module _ {F : Type 0} where
     pub reads : then.0.reads ≡ me.0.reads
     pub reading : then.0.reading ≡ me.0.reading
     pub holds : then.1 ≡ me.1
+
+  -- The bus was detached and unlinked. Of the rest, only the copy of the links has changed, and the notes.
+  pub record IsUnlinked (bus : ℕ) (me then : Me (Option F) (View F)) : Type 0 where
+    pub editing : then.0.editing ≡ unlinked (FlagCleared bus (attached_feed me.0.editing.history bus)) (flag_cleared bus me.0.editing)
+    pub is_editor : then.0.is_editor ≡ me.0.is_editor
+    pub reads : then.0.reads ≡ me.0.reads
+    pub reading : then.0.reading ≡ me.0.reading
+    pub holds : then.1 ≡ me.1
+
+  -- The edit is over. Of the rest, only the notes have changed.
+  pub record IsTakenOut (me then : Me (Option F) (View F)) : Type 0 where
+    pub editing : then.0.editing ≡ at Idle me.0.editing
+    pub links : then.0.links ≡ me.0.links
+    pub is_editor : then.0.is_editor ≡ me.0.is_editor
+    pub reads : then.0.reads ≡ me.0.reads
+    pub reading : then.0.reading ≡ me.0.reading
+    pub holds : then.1 ≡ []

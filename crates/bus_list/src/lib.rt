@@ -21,6 +21,7 @@
 
 mod both;
 mod bus_list;
+mod detaching;
 mod editor;
 mod grace_period;
 mod held;

@@ -4,10 +4,10 @@ ghost use Rattle.std.specs.Prelude.{◌≡◌, ℕ, ◌+◌, ◌^◌, ◌<◌, [
 ghost use Rattle.bus_list.specs.Seats.{IsAt, IsEditorOf};
 ghost use Rattle.bus_list.specs.declared.view.Phase.TheVariants.{Idle};
 
+use crate::detaching::{take_out, unlink};
 use crate::grace_period::{
     expect_no_reference, expect_no_step, wait_for_references, wait_for_steps,
 };
-use crate::predecessor::find_predecessor;
 use crate::table::{ListSeat, ListTable};
 use std::sync::Wait;
 
@@ -33,7 +33,7 @@ impl<T> ListEditor<T> {
     ghost use Rattle.bus_list.specs.Rule.{first_links, first_view, editor_part, pass_part, joined};
     ghost use Rattle.bus_list.specs.Seats.{SameSeat, SameReading};
 
-    /// Its own link, the feed, the dummy's link, the flag, the count.
+    /// Stores the bus's own link, puts the feed in, and stores the dummy's link, the flag and the count.
     pub(crate) fn attach(&mut self, bus: u32, feed: T)
         requires bus { bus < self.old.table.buses }
         requires off { attached_feed self.old.seat.me.0.editing.history bus ≡ None }
@@ -56,7 +56,7 @@ impl<T> ListEditor<T> {
         self.table.store_edits(&mut self.seat, bus, self.edits);
     }
 
-    /// The flag, the link of the bus predecessor, no step, no reference, the feed, the count.
+    /// Unlinks the bus, waits for the grace period to end, and takes the feed out.
     pub(crate) fn detach<R: Wait>(&mut self, rt: &R, bus: u32) -> T
         requires bus { bus < self.old.table.buses }
         requires on { is_some (attached_feed self.old.seat.me.0.editing.history bus) ≡ true }
@@ -66,51 +66,33 @@ impl<T> ListEditor<T> {
         ensures rest { SameReading self.old.seat.me.0 self.new.seat.me.0 }
         ensures same { SameSeat self.old.seat self.new.seat × (self.new.table ≡ self.old.table) }
     {
-        self.table.clear_flag(&mut self.seat, bus);
-        let predecessor = find_predecessor(&self.links, &self.seat, self.table.buses, bus);
-        let link = self.links[bus as usize];
-        self.table
-            .store_predecessor_link(&mut self.seat, bus, predecessor, link);
-        self.links[predecessor as usize] = link;
+        unlink(&self.table, &mut self.seat, &mut self.links, bus);
         wait_for_steps(rt, &self.table, &mut self.seat, bus);
         wait_for_references(rt, &self.table, &mut self.seat, bus);
-        self.table.take_cell(&mut self.seat, bus);
-        let had = self.table.exchange_cell(&mut self.seat, bus, None);
-        self.table.empty_cell(&mut self.seat, bus);
         self.edits += 1;
-        self.table.store_edits(&mut self.seat, bus, self.edits);
-        let Some(feed) = had else { unreachable!() };
-        feed
+        take_out(&self.table, &mut self.seat, bus, self.edits)
     }
 
-    /// The same, with the pass's part at rest, so that nothing waits.
+    /// The same for a seat that has the pass's part too, which is at rest: nobody is waited for.
     pub(crate) fn detach_now(&mut self, bus: u32) -> T
         requires bus { bus < self.old.table.buses }
         requires on { is_some (attached_feed self.old.seat.me.0.editing.history bus) ≡ true }
         requires room { length self.old.seat.me.0.editing.history < 2 ^ 62 }
-        requires role { (self.old.seat.me.0.reads ≡ true) × IsResting self.old.table.buses self.old.seat.me.0.reading }
+        requires resting { (self.old.seat.me.0.reads ≡ true)
+            × IsResting self.old.table.buses self.old.seat.me.0.reading }
         ensures history { self.new.seat.me.0.editing.history ≡ self.old.seat.me.0.editing.history ++ Off bus ∷ [] }
         ensures feed { attached_feed self.old.seat.me.0.editing.history bus ≡ Some result }
         ensures rest { SameReading self.old.seat.me.0 self.new.seat.me.0 }
         ensures same { SameSeat self.old.seat self.new.seat × (self.new.table ≡ self.old.table) }
     {
-        self.table.clear_flag(&mut self.seat, bus);
-        let predecessor = find_predecessor(&self.links, &self.seat, self.table.buses, bus);
-        let link = self.links[bus as usize];
-        self.table
-            .store_predecessor_link(&mut self.seat, bus, predecessor, link);
-        self.links[predecessor as usize] = link;
+        unlink(&self.table, &mut self.seat, &mut self.links, bus);
         expect_no_step(&self.table, &mut self.seat, bus);
         expect_no_reference(&self.table, &mut self.seat, bus);
-        self.table.take_cell(&mut self.seat, bus);
-        let had = self.table.exchange_cell(&mut self.seat, bus, None);
-        self.table.empty_cell(&mut self.seat, bus);
         self.edits += 1;
-        self.table.store_edits(&mut self.seat, bus, self.edits);
-        let Some(feed) = had else { unreachable!() };
-        feed
+        take_out(&self.table, &mut self.seat, bus, self.edits)
     }
 
+    /// The editor of a list that was never edited.
     pub(crate) fn new(table: ListTable<T>, links: Vec<u32>, seat: ListSeat<T>) -> ListEditor<T>
         requires at { IsAt table seat }
         requires links { links.items ≡ first_links table.buses }
@@ -125,12 +107,14 @@ impl<T> ListEditor<T> {
         }
     }
 
+    /// The number of edits so far.
     pub(crate) fn edits(&self) -> u64
         ensures { result ≡ length self.now.seat.me.0.editing.history }
     {
         self.edits
     }
 
+    /// Gives the pass's part to a new seat.
     pub(crate) fn split(&mut self) -> ListSeat<T>
         requires role { self.old.seat.me.0.reads ≡ true }
         requires shut { self.old.seat.me.0.reading.opened ≡ false }
@@ -141,6 +125,7 @@ impl<T> ListEditor<T> {
         self.table.split(&mut self.seat)
     }
 
+    /// Takes the pass's part back, and learns that its visits were lawful.
     pub(crate) fn join(&mut self, other: ListSeat<T>)
         requires at { IsAt self.old.table other }
         requires role { other.me.0.reads ≡ true }

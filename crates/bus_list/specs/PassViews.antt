@@ -4,6 +4,7 @@ use Rattle.atomic_table.specs.Seated.{TableId}
 use Rattle.bus_list.specs.declared.view.Note.{Note}
 use Rattle.bus_list.specs.declared.visit.Visit.{Visit}
 use Rattle.bus_list.specs.declared.pass.Pass.{Pass}
+use Rattle.bus_list.specs.declared.held.Held.{Held}
 use Rattle.bus_list.specs.Visits.{has, buses_of}
 use Rattle.bus_list.specs.PassStates.{NotesGrow, LoadedEnd}
 
@@ -50,6 +51,13 @@ module _ {F : Type 0} where
   -- The open visit, where it ends with this count.
   abbrev pub visit_until : Pass F → ℕ → Visit F
   visit_until p n = record { from = from_of p; until = n; pairs = given_of p; whole = is_whole p }
+
+  -- The bus that is lent, and its feed.
+  abbrev pub bus_of : Held F → ℕ
+  bus_of h = h.bus
+
+  abbrev pub feed_of_held : Held F → F
+  feed_of_held h = h.feed.now
 
   -- The same visit goes on. Once it is whole it stays so.
   pub record Next (p n : Pass F) : Type 0 where

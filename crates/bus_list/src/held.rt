@@ -8,16 +8,18 @@ pub struct Held<'a, T> {
 }
 
 impl<'a, T> Held<'a, T> {
+    ghost use Rattle.bus_list.specs.PassViews.{bus_of, feed_of_held};
+
     /// The number of the bus.
     pub fn bus(&self) -> u32
-        ensures { result ≡ self.now.bus }
+        ensures { result ≡ bus_of self.now }
     {
         self.bus
     }
 
     /// The feed with which the bus is attached. It isn't copied.
     pub fn feed(&self) -> &'a T
-        ensures { result.now ≡ self.now.feed.now }
+        ensures { result.now ≡ feed_of_held self.now }
     {
         self.feed
     }

@@ -25,7 +25,7 @@ pub struct Pass<T> {
 }
 
 impl<T> Pass<T> {
-    ghost use Rattle.bus_list.specs.PassViews.{list_of_pass, buses_of_pass, is_visiting, is_whole, from_of, given_of, visits_of, start_of, last_count_of, notes_of, visit_until, Next, HasEnded, Gave};
+    ghost use Rattle.bus_list.specs.PassViews.{list_of_pass, buses_of_pass, is_visiting, is_whole, from_of, given_of, bus_of, feed_of_held, visits_of, start_of, last_count_of, notes_of, visit_until, Next, HasEnded, Gave};
     ghost use Rattle.bus_list.specs.contracts.pass.Pass.{the_row};
     ghost use mathlib.Core.Option.{none};
     ghost use denote.Follow.{follows_so};
@@ -88,7 +88,7 @@ impl<T> Pass<T> {
     pub fn next(&mut self) -> Option<Held<'_, T>>
         requires { is_visiting self.old ≡ true }
         ensures* after { sem 𝓛 (follows_so (the_row T.row) (the_row T.row) self.entry.ghost_name none (λ _ _. ⊤)
-            (λ n. Next self.old n × MatchOption result (HasEnded self.old n) (λ h. Gave self.old n h.bus h.feed.now))) }
+            (λ n. Next self.old n × MatchOption result (HasEnded self.old n) (λ h. Gave self.old n (bus_of h) (feed_of_held h)))) }
     {
         self.advance();
         self.lent()
@@ -101,7 +101,9 @@ impl<T> Pass<T> {
         ensures visit { is_visiting self.new ≡ false }
         ensures visits { (visits_of self.new ≡ visits_of self.old ++ visit_until self.old result.until ∷ [])
             × (start_of self.new ≡ start_of self.old) }
-        ensures window { (result.from ≡ from_of self.old) × (result.from ≤ result.until)
+        ensures window { (result.from ≡ from_of self.old)
+            × (result.from ≤ result.until)
+            × (from_of self.new ≡ from_of self.old)
             × (last_count_of self.new ≡ result.until) }
         ensures list { (list_of_pass self.new ≡ list_of_pass self.old)
             × (buses_of_pass self.new ≡ buses_of_pass self.old) }

@@ -1,4 +1,4 @@
-use Rattle.std.proofs.Common.{◌≡◌, ◌∷◌, ap, ◌∙◌}
+use Rattle.std.proofs.Common.{◌∷◌, ap, ◌∙◌}
 use Rattle.bus_list.specs.Steps.{payload}
 use Rattle.bus_list.proofs.detaching.take_out.Goals as goal
 

@@ -1,4 +1,4 @@
-use Rattle.std.proofs.Common.{◌≡◌, ap}
+use Rattle.std.proofs.Common.{ap}
 use Rattle.bus_list.specs.Visits.{attached_feed}
 use Rattle.bus_list.proofs.detaching.unlink.Goals as goal
 

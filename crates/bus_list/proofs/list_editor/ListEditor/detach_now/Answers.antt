@@ -1,4 +1,4 @@
-use Rattle.std.proofs.Common.{◌≡◌, ap, ◌∙◌}
+use Rattle.std.proofs.Common.{ap, ◌∙◌}
 use Rattle.bus_list.specs.Visits.{attached_feed}
 use Rattle.bus_list.specs.Transitions.{quiesced, unreferenced}
 use Rattle.bus_list.proofs.list_editor.ListEditor.detach_now.Goals as goal

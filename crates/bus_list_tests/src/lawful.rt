@@ -10,7 +10,10 @@ type Feeds = [u32; 8];
 
 /// The feeds before the first edit and after each. `None` where a bus is none of the 8, or where a
 /// count isn't the number of edits so far.
-pub(crate) fn feeds_after_each(alloc: Global, edits: &[Edit]) -> Result<Option<Vec<Feeds>>, AllocError> {
+pub(crate) fn feeds_after_each(
+    alloc: Global,
+    edits: &[Edit],
+) -> Result<Option<Vec<Feeds>>, AllocError> {
     let mut feeds = [0; 8];
     let mut all = Vec::new(alloc);
     all.push(feeds)?;
@@ -38,18 +41,24 @@ pub(crate) fn is_lawful(all: &[Feeds], visit: &Visited) -> bool {
     let end = all.len().min(until + 2);
     let window = &all[from..end];
     let pairs = visit.pairs.as_slice();
-    pairs.iter().all(|pair| stood(window, *pair) && times(pairs, pair.0) == 1)
+    pairs
+        .iter()
+        .all(|pair| stood(window, *pair) && times(pairs, pair.0) == 1)
         && (!visit.whole || (0..8u32).all(|bus| !stayed(window, bus) || times(pairs, bus) == 1))
 }
 
 /// Whether the bus had this feed at some moment.
 fn stood(window: &[Feeds], pair: (u32, u32)) -> bool {
-    window.iter().any(|feeds| feeds.get(pair.0 as usize) == Some(&pair.1))
+    window
+        .iter()
+        .any(|feeds| feeds.get(pair.0 as usize) == Some(&pair.1))
 }
 
 /// Whether the bus was attached all the while.
 fn stayed(window: &[Feeds], bus: u32) -> bool {
-    window.iter().all(|feeds| feeds.get(bus as usize) != Some(&0))
+    window
+        .iter()
+        .all(|feeds| feeds.get(bus as usize) != Some(&0))
 }
 
 /// How often the bus was given.
@@ -90,7 +99,11 @@ fn unlawful_visits_are_told_from_lawful_ones(rt: HostRuntime) -> Result<(), Fail
             pairs,
             whole: true,
         };
-        assert_eq!(rt; is_lawful(&all, &visit), lawful, "from {from} until {until}");
+        assert_eq!(rt;
+            is_lawful(&all, &visit),
+            lawful,
+            "from {from} until {until}"
+        );
     }
     Ok(())
 }

@@ -7,15 +7,18 @@ ghost use Rattle.bus_list.specs.ListViews.{history_of_editor, list_of_editor, On
 use crate::lawful::{feeds_after_each, is_lawful};
 use crate::recorder::Recorder;
 use crate::visited::{Visited, visit};
-use bus_list::{Both, BusList, Pass};
+use bus_list::{Both, BusList, Pass, Window};
 use std::alloc::Global;
 use std::sync::Wait;
 use std::sync::atomic::{AtomicBool, Ordering};
 use std::test::*;
+use std::thread;
 use std::thread::{Threads, join};
 
 const SEED: u64 = 20_261_201;
+
 const EDITS: usize = 20_000;
+
 const MOST_VISITS: usize = 100_000;
 
 /// The pass, with its visits.
@@ -25,20 +28,23 @@ struct Visits {
     visits: Vec<Visited>,
 }
 
-/// Edits buses that a linear congruential generator chooses.
+/// Edits buses that a linear congruential generator chooses, and lets the other thread in after each.
 fn edit_many<R: Wait>(rt: &R, mut recorder: Recorder, over: &AtomicBool) -> Recorder
     ensures { list_of_editor result.editor ≡ list_of_editor recorder.editor }
 {
     let mut state = SEED;
     for _ in 0..EDITS {
-        state = state.wrapping_mul(6_364_136_223_846_793_005).wrapping_add(1_442_695_040_888_963_407);
+        state = state
+            .wrapping_mul(6_364_136_223_846_793_005)
+            .wrapping_add(1_442_695_040_888_963_407);
         recorder.edit(rt, (state >> 61) as u32);
+        thread::yield_now();
     }
     over.store(true, Ordering::SeqCst);
     recorder
 }
 
-/// Visits the list until the edits are over, and once more.
+/// Visits the list until the edits are over.
 fn visit_many(alloc: Global, pass: Pass<u32>, over: &AtomicBool) -> Visits
     requires { is_visiting pass ≡ false }
     ensures { (is_visiting result.pass ≡ false) × (list_of_pass result.pass ≡ list_of_pass pass) }
@@ -46,9 +52,11 @@ fn visit_many(alloc: Global, pass: Pass<u32>, over: &AtomicBool) -> Visits
     let mut pass = pass;
     let mut visits = Vec::new(alloc);
     for _ in 0..MOST_VISITS {
-        let last = over.load(Ordering::SeqCst);
+        if over.load(Ordering::SeqCst) {
+            break;
+        }
         let visited = visit(alloc, &mut pass);
-        if visits.push(visited).is_err() || last {
+        if visits.push(visited).is_err() {
             break;
         }
     }
@@ -73,9 +81,7 @@ fn at_once<R: Threads + Wait + Sync>(
         { edit_many(rt, recorder, &over) },
         || -> Visits
             requires { is_visiting pass ≡ false }
-            ensures {
-                (is_visiting result.pass ≡ false) × (list_of_pass result.pass ≡ list_of_pass pass)
-            }
+            ensures { (is_visiting result.pass ≡ false) × (list_of_pass result.pass ≡ list_of_pass pass) }
         { visit_many(alloc, pass, &over) },
     )
 }
@@ -95,14 +101,31 @@ fn each_visit_beside_edits_is_lawful(rt: HostRuntime) -> Result<(), Fail> {
         faults,
     } = recorder;
     assert_eq!(rt; editor.edits(), EDITS as u64);
-    let _both = Both::join(editor, pass);
     assert_eq!(rt; faults, 0);
     let Some(all) = feeds_after_each(alloc, &edits)? else {
         return Err(Fail::new("the counts of edits are not in order"));
     };
-    let unlawful = visits.iter().filter(|visited| !is_lawful(&all, visited)).count();
+    let unlawful = visits
+        .iter()
+        .filter(|visited| !is_lawful(&all, visited))
+        .count();
     assert_eq!(rt; unlawful, 0);
-    assert!(rt; visits.iter().zip(visits.iter().skip(1)).all(|(a, b)| a.window.until <= b.window.from));
-    assert_eq!(rt; visits.last().map(|visited| visited.window.until), Some(EDITS as u64));
+    assert!(rt;
+        visits
+            .iter()
+            .zip(visits.iter().skip(1))
+            .all(|(a, b)| a.window.until <= b.window.from)
+    );
+    let (_editor, mut pass) = Both::join(editor, pass).split();
+    let last = visit(alloc, &mut pass);
+    let count = EDITS as u64;
+    assert_eq!(rt;
+        last.window,
+        Window {
+            from: count,
+            until: count
+        }
+    );
+    assert!(rt; last.whole && is_lawful(&all, &last));
     Ok(())
 }

@@ -93,11 +93,7 @@ impl Recorder {
         ensures { (self.new.editor ≡ self.old.editor) × (self.new.feeds ≡ self.old.feeds) }
     {
         let count = self.editor.edits();
-        let made = Edit {
-            bus,
-            feed,
-            count,
-        };
+        let made = Edit { bus, feed, count };
         if self.edits.push(made).is_err() {
             self.faults = self.faults.saturating_add(1);
         }

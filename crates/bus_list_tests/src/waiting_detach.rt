@@ -15,8 +15,11 @@ use std::thread::{Threads, join};
 
 /// The buses of the test, and how often the pass looks whether the detach has returned.
 const A: u32 = 0;
+
 const B: u32 = 1;
+
 const C: u32 = 2;
+
 const LOOKS: u32 = 2_000;
 
 /// What the two threads tell each other.
@@ -38,7 +41,11 @@ struct Seen {
 }
 
 /// Attaches C and detaches A. Gives A's feed, and whether the pass had left A by then.
-fn attach_and_detach<R: Wait>(rt: &R, mut editor: Editor<u32>, signals: &Signals) -> (Editor<u32>, u32, bool)
+fn attach_and_detach<R: Wait>(
+    rt: &R,
+    mut editor: Editor<u32>,
+    signals: &Signals,
+) -> (Editor<u32>, u32, bool)
     requires buses { buses_of_editor editor ≡ 3 }
     requires history { history_of_editor editor ≡ On 1 21 ∷ On 0 20 ∷ [] }
     ensures { list_of_editor result.0 ≡ list_of_editor editor }
@@ -85,26 +92,20 @@ fn at_once<R: Threads + Wait + Sync>(
     pass: Pass<u32>,
     signals: &Signals,
 ) -> ((Editor<u32>, u32, bool), Seen)
-    requires editor {
-        (buses_of_editor editor ≡ 3) × (history_of_editor editor ≡ On 1 21 ∷ On 0 20 ∷ [])
-    }
+    requires editor { (buses_of_editor editor ≡ 3) × (history_of_editor editor ≡ On 1 21 ∷ On 0 20 ∷ []) }
     requires pass { OneList editor pass × (is_visiting pass ≡ true) }
     ensures { OneList result.0.0 result.1.pass × (is_visiting result.1.pass ≡ false) }
 {
     join(
         rt,
         || -> (Editor<u32>, u32, bool)
-            requires {
-                IsSync R.row × (buses_of_editor editor ≡ 3)
-                    × (history_of_editor editor ≡ On 1 21 ∷ On 0 20 ∷ [])
-            }
+            requires { IsSync R.row × (buses_of_editor editor ≡ 3)
+                × (history_of_editor editor ≡ On 1 21 ∷ On 0 20 ∷ []) }
             ensures { list_of_editor result.0 ≡ list_of_editor editor }
         { attach_and_detach(rt, editor, signals) },
         || -> Seen
             requires { IsSync R.row × (is_visiting pass ≡ true) }
-            ensures {
-                (is_visiting result.pass ≡ false) × (list_of_pass result.pass ≡ list_of_pass pass)
-            }
+            ensures { (is_visiting result.pass ≡ false) × (list_of_pass result.pass ≡ list_of_pass pass) }
         { stand_and_go_on(rt, pass, signals) },
     )
 }

@@ -11,4 +11,4 @@ invariant_of-self-clause-known c =
     let size = old.buses.1 in
     let feed = c.edits.result + 1 in
     subst (Knows (slice_set old.feeds.items c.args.bus feed)) (sym c.attach.ensures.history)
-        (knows_on old.feeds.items (history_of_editor old.editor) c.args.bus feed (omega arith) (omega arith) old.known)
+    (knows_on old.feeds.items (history_of_editor old.editor) c.args.bus feed (omega arith) (omega arith) old.known)

@@ -10,4 +10,4 @@ invariant_of-self-clause-known g c =
     let low = c.requires.bus in
     let size = old.buses.1 in
     subst (Knows (slice_set old.feeds.items c.args.bus 0)) (sym c.detach-had.ensures.history)
-        (knows_off old.feeds.items (history_of_editor old.editor) c.args.bus (omega arith) old.known)
+    (knows_off old.feeds.items (history_of_editor old.editor) c.args.bus (omega arith) old.known)

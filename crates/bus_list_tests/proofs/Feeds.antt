@@ -1,10 +1,8 @@
 -- What a test knows of a list, after an edit.
-use Rattle.std.proofs.Common.{◌≡◌, ◌≢◌, ℕ, zero, suc, ◌<◌, cond, ◌==◌, List, [], ◌∷◌, ◌++◌, length, set, get_or, refl, sym, ap, ◌∙◌, arith, Option, Some, None, length-set, get_or-set_same, get_or-set_other}
+use Rattle.std.proofs.Common.{◌≡◌, ◌≢◌, ℕ, zero, suc, ◌<◌, List, [], ◌∷◌, ◌++◌, length, refl, sym, ap, ◌∙◌, arith, Some, length-set, get_or-set_same, get_or-set_other}
 use Rattle.std.specs.Prelude.{slice_index, slice_set}
-use Rattle.std.proofs.lemmas.Bool.{eq-eqb, ne_eqb}
 use Rattle.bus_list.specs.declared.history.Entry.{Entry}
 use Rattle.bus_list.specs.declared.history.Entry.TheVariants.{On, Off}
-use Rattle.bus_list.specs.Visits.{attached_feed}
 use Rattle.bus_list.proofs.Visits.{feed_attached, feed_detached, feed_else}
 use Rattle.bus_list.proofs.Chains.{cases}
 use Rattle.bus_list_tests.specs.Feeds.{Knows, feed_at}

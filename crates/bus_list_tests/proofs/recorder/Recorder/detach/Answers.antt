@@ -1,4 +1,4 @@
-use Rattle.std.proofs.Common.{◌≡◌, ℕ, ◌<◌, ◌+◌, length, slice_set, sym, subst, arith}
+use Rattle.std.proofs.Common.{slice_set, sym, subst, arith}
 use Rattle.bus_list.specs.ListViews.{history_of_editor}
 use Rattle.bus_list_tests.specs.Feeds.{Knows}
 use Rattle.bus_list_tests.proofs.Feeds.{knows_off}

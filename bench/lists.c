@@ -26,14 +26,17 @@ static inline _Atomic uint64_t *references_of(struct list *l, uint32_t bus) { re
 static inline _Atomic uint64_t *count_of(struct list *l) { return &l->words[3 * l->buses + 1]; }
 static inline _Atomic uint64_t *steps_of(struct list *l) { return &l->words[3 * l->buses + 2]; }
 
-/* Exchanges what is in the bus's cell, between two loads of a word. */
+/* Exchanges what is in the bus's cell. A cell is taken, and goes back, at a load of a word. */
 static uint32_t exchange_cell(struct list *l, uint32_t bus, uint32_t feed)
 {
-    (void)atomic_load(link_of(l, bus));
     uint32_t had = l->cells[bus];
     l->cells[bus] = feed;
-    (void)atomic_load(link_of(l, bus));
     return had;
+}
+
+static void move_cell(struct list *l, uint32_t bus)
+{
+    (void)atomic_load(link_of(l, bus));
 }
 
 /* The editor, with its copy of the links. */
@@ -46,7 +49,9 @@ static void attach(struct editor *e, uint32_t bus, uint32_t feed)
     uint32_t first = e->links[l->buses];
     atomic_store(link_of(l, bus), first);
     e->links[bus] = first;
+    move_cell(l, bus);
     exchange_cell(l, bus, feed);
+    move_cell(l, bus);
     atomic_store(link_of(l, l->buses), bus);
     e->links[l->buses] = bus;
     atomic_store(flag_of(l, bus), 1);
@@ -64,7 +69,9 @@ static uint32_t detach(struct editor *e, uint32_t bus)
     e->links[before] = e->links[bus];
     while (atomic_load(steps_of(l)) != 0) sched_yield();
     while (atomic_load(references_of(l, bus)) != 0) sched_yield();
+    move_cell(l, bus);
     uint32_t feed = exchange_cell(l, bus, NO_FEED);
+    move_cell(l, bus);
     atomic_store(count_of(l), ++e->edits);
     return feed;
 }
@@ -81,7 +88,10 @@ static void begin(struct pass *p)
 
 static void let_go(struct pass *p)
 {
-    if (p->feed != NO_FEED) exchange_cell(p->list, p->held, p->feed);
+    if (p->feed != NO_FEED) {
+        exchange_cell(p->list, p->held, p->feed);
+        move_cell(p->list, p->held);
+    }
     p->feed = NO_FEED;
     if (p->held < p->list->buses) atomic_fetch_sub(references_of(p->list, p->held), 1);
 }
@@ -99,7 +109,10 @@ static uint32_t next(struct pass *p)
         atomic_fetch_sub(steps_of(l), 1);
         p->held = bus;
         p->ended = bus == l->buses;
-        if (!p->ended && atomic_load(flag_of(l, bus)) != 0) return p->feed = exchange_cell(l, bus, NO_FEED);
+        if (!p->ended && atomic_load(flag_of(l, bus)) != 0) {
+            move_cell(l, bus);
+            return p->feed = exchange_cell(l, bus, NO_FEED);
+        }
     }
     return NO_FEED;
 }

@@ -1,0 +1,18 @@
+use Rattle.std.proofs.Common.{Some, ◌*◌, ◌∷◌, sym, ap, ◌∙◌, arith}
+use mathlib.Core.Option.{none}
+use Rattle.atomic_table.specs.Table.{rest, step}
+use Rattle.bus_list.specs.Steps.{FilledCell}
+use Rattle.bus_list.proofs.EditorSteps.{fills_cell_kept}
+use Rattle.bus_list.proofs.StepAtTable.{at_table}
+use Rattle.bus_list.proofs.table.ListTable.fill_cell.Goals as goal
+
+pub load-requires : goal.load-requires
+load-requires g c =
+    let list = c.args.self.now in
+    let d = c.deref.ensures in
+    let me = c.args.seat.now.me in
+    let low = c.requires.bus in
+    let feed = c.requires.has.0 in
+    at_table list c.args.seat.now.id me (λ n. n) (λ n. FilledCell (step n (3 * c.args.bus) 0 0 none) me) (ap (λ r. r.shared.key) d ∙ list.keyed) (ap (λ r. r.shared.table_id) d) c.requires.seat.0 (omega arith)
+    (fills_cell_kept list.buses c.args.seat.now.id me c.requires.seat.1 (3 * c.args.bus) c.args.bus feed c.requires.phase
+    (c.requires.has.1 ∙ (λ j. (c.args.bus, Some feed) ∷ sym (ap rest c.requires.has.1) j)))

@@ -1,0 +1,17 @@
+use Rattle.std.proofs.Common.{◌*◌, ◌∷◌, sym, ap, ◌∙◌, arith}
+use mathlib.Core.Option.{none}
+use Rattle.atomic_table.specs.Table.{rest, step}
+use Rattle.bus_list.specs.Steps.{ReturnedFeed}
+use Rattle.bus_list.proofs.PassSteps.{returns_feed_kept}
+use Rattle.bus_list.proofs.StepAtTable.{at_table}
+use Rattle.bus_list.proofs.table.ListTable.return_feed.Goals as goal
+
+pub load-requires : goal.load-requires
+load-requires g c =
+    let list = c.args.self.now in
+    let d = c.deref.ensures in
+    let me = c.args.seat.now.me in
+    let low = c.requires.borrowed.1 in
+    at_table list c.args.seat.now.id me (λ n. n) (λ n. ReturnedFeed (step n (3 * c.args.bus) 0 0 none) me) (ap (λ r. r.shared.key) d ∙ list.keyed) (ap (λ r. r.shared.table_id) d) c.requires.seat.0 (omega arith)
+    (returns_feed_kept list.buses c.args.seat.now.id me c.requires.seat.1 (3 * c.args.bus) (λ e. let a = c.requires.borrowed in absurd (omega arith))
+    (c.requires.has ∙ (λ j. (c.requires.borrowed.0 j, me.0.reading.borrowed_feed) ∷ sym (ap rest c.requires.has) j)))

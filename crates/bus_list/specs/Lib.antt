@@ -1,0 +1,9 @@
+pub mod Visits
+pub mod Invariant
+pub mod Transitions
+pub mod Rule
+pub mod Steps
+pub mod Seats
+pub mod PassStates
+pub mod PassViews
+pub mod ListViews

@@ -19,15 +19,27 @@ pub fn to_channels(frame: &[i32], out: &mut [i32])
 {
     if out.len() == 1 {
         out.fill(mean(frame));
-    } else if frame.len() == 1 {
-        out.fill(frame[0]);
     } else {
-        out.copy_from_slice(&frame[..2]);
+        out.copy_from_slice(&to_stereo(frame));
     }
 }
 
-/// The mean of 1 to 8 samples, rounded down.
-fn mean(samples: &[i32]) -> i32
+/// A frame of 1 to 8 channels in two: its only channel twice, or else its first two. A frame of
+/// 24-bit samples stays one.
+pub fn to_stereo(frame: &[i32]) -> [i32; 2]
+    requires { 1 ≤ length frame.now }
+    ensures converted { result ≡ in_channels 2 frame.now }
+    ensures range { All Is24 frame.now → All Is24 result }
+{
+    if frame.len() == 1 {
+        [frame[0], frame[0]]
+    } else {
+        [frame[0], frame[1]]
+    }
+}
+
+/// The mean of 1 to 8 samples, rounded down: a frame in one channel. A mean of 24-bit samples is one.
+pub fn mean(samples: &[i32]) -> i32
     requires some { 1 ≤ length samples.now }
     requires most { length samples.now ≤ 8 }
     ensures mean { result ≡ mean samples.now }

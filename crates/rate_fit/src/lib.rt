@@ -20,7 +20,7 @@ mod point;
 mod rounding;
 mod walker;
 
-pub use channels::to_channels;
+pub use channels::{mean, to_channels, to_stereo};
 pub use fit::Fit;
 pub use interpolation::blend;
 pub use interpolator::Interpolator;

@@ -4,7 +4,7 @@ ghost use Rattle.std.specs.Prelude.{◌≡◌, ◌<◌, ◌≤◌, pos, length, 
 ghost use Rattle.mix_fixed.specs.Sound.{Is24};
 ghost use Rattle.rate_fit.specs.Channels.{in_channels};
 
-use rate_fit::to_channels;
+use rate_fit::{mean, to_stereo};
 
 /// The sample of channel `channel` of a frame of 1 to 8 channels that is brought to `channels`, 1
 /// or 2. Only the channel that is asked for is computed.
@@ -17,13 +17,9 @@ pub fn channel_of(frame: &[i32], channels: u8, channel: u8) -> i32
     ensures value { result ≡ slice_index_or (in_channels channels frame.now) channel (pos 0) }
     ensures range { Is24 result }
 {
-    if frame.len() == 1 {
-        return frame[0];
-    }
     if channels == 1 {
-        let mut out = [0i32; 1];
-        to_channels(frame, &mut out);
-        return out[0];
+        mean(frame)
+    } else {
+        to_stereo(frame)[usize::from(channel)]
     }
-    frame[usize::from(channel)]
 }

@@ -1,0 +1,5 @@
+//! Tagged slots.
+#![tactic(auto)]
+
+pub mod rule;
+pub mod view;

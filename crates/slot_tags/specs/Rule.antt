@@ -1,6 +1,6 @@
 -- The rule of tags.
 -- The bit of the slot s is bit s % 32 of word s / 32, and its counter the word that lies s words after the last group. The slots of the table are the cells.
-use Rattle.std.specs.Prelude.{◌≡◌, ◌⊎◌, ℕ, ◌+◌, ◌*◌, ◌/◌, ◌%◌, ◌≤◌, ◌<◌, List, [], ◌∷◌, length, slice_index, Option, Some, None}
+use Rattle.std.specs.Prelude.{◌≡◌, ◌⊎◌, ℕ, ◌+◌, ◌*◌, ◌/◌, ◌%◌, ◌^◌, ◌≤◌, ◌<◌, List, [], ◌∷◌, length, slice_index, Option, Some, None}
 use Rattle.std.specs.Int.{bit_at}
 use mathlib.Core.Option.{some, none}
 use lib.ListN.{get_elem?}
@@ -45,6 +45,13 @@ abbrev pub ArePast : (ℕ → ℕ) → List (ℕ × ℕ) → Type 0
 ArePast count [] = Unit {0}
 ArePast count (x ∷ xs) = (x.1 ≤ count x.0) × ArePast count xs
 
+-- a seat with this role, number and job may be joined: it has no slot, or its slot's tag is empty and has the last number
+abbrev pub CanEnd : ℕ → Role → ℕ → Option JobCode → Type 0
+CanEnd last Free number job = Unit {0}
+CanEnd last Given number job = Unit {0}
+CanEnd last Held number job = (last ≤ number) × (job ≡ None)
+CanEnd last _ number job = ⊥
+
 module _ {J : Type 0} where
   -- the code of what a cell holds
   abbrev pub code_of : (J → Gv) → Option J → Option JobCode
@@ -85,4 +92,5 @@ module _ {J : Type 0} where
   pub record Kept (code : J → Gv) (k : Sizes) (s : State (Option J) View) : Type 0 where
     pub words : length s.words ≡ 33 * k.groups
     pub homes : length s.homes ≡ 32 * k.groups
+    pub bound : k.last < 2 ^ 32
     pub tagged : Tagged code (32 * k.groups) k.last (slots_of k.groups s.words s.homes) s.views

@@ -1,5 +1,5 @@
 -- What each kind of step makes of a view, and what it tells.
-use Rattle.std.specs.Prelude.{◌≡◌, ℕ, ◌+◌, ◌*◌, ◌%◌, ◌<◌, cond, ◌==◌, List, [], ◌∷◌, ◌++◌, Option, Some, None}
+use Rattle.std.specs.Prelude.{◌≡◌, ℕ, ◌+◌, ◌*◌, ◌%◌, ◌^◌, ◌<◌, cond, ◌==◌, List, [], ◌∷◌, ◌++◌, Option, Some, None}
 use Rattle.std.specs.Int.{bit_at, trailing_zeros, w64}
 use base.Stored.{Gv}
 use Rattle.atomic_table.specs.Table.{Step, Me, rest}
@@ -79,7 +79,7 @@ module _ {J : Type 0} where
   SetBit s me n now = now ≡ (tried (slot_of s) n me.0, me.1)
 
   abbrev pub CountedUp : Step (Option J) → Me (Option J) View → ℕ → Me (Option J) View → Type 0
-  CountedUp s me n now = (now ≡ (counted n me.0, me.1)) × (n < me.0.last) × IsNewer me.0.slot (n + 1) me.0.given
+  CountedUp s me n now = (now ≡ (counted n me.0, me.1)) × (n < me.0.last) × (n + 1 < 2 ^ 32) × IsNewer me.0.slot (n + 1) me.0.given
 
   abbrev pub OpenedCell : (J → Gv) → Step (Option J) → Me (Option J) View → ℕ → Me (Option J) View → Type 0
   OpenedCell code s me n now = (x : Option J) × (code_of code x ≡ me.0.job) × (now ≡ (opened me.0, (me.0.slot, x) ∷ me.1))

@@ -74,7 +74,7 @@ module _ {J : Type 0} (code : J → Gv) (k : Sizes) (slot : ℕ) (inside : slot 
     wins role clear =
         let n : ℕ = bit_or found mask in
         let old = h.tagged.seat id v at in
-        let free = is_free code k.last t s.views slot (h.tagged.owner slot) (h.tagged.slot slot inside) clear in
+        let free = is_free k.last t s.views slot (h.tagged.owner slot) (h.tagged.slot slot inside) clear in
         kept n won (moved code slots k.last t (after n) s.views id slot v won (some id) h.tagged at
         record { same = λ x lt apart. others n or_other x apart; grows = grown n }
         (λ lt. inl free.0) (λ x has. absurd (free_bare v.role v.slot x role has))
@@ -120,7 +120,7 @@ module _ {J : Type 0} (code : J → Gv) (k : Sizes) (slot : ℕ) (inside : slot 
               (let e : (after n).count v.slot ≡ v.number = ap (after n).count same ∙ count in omega arith)
               (past_append (after n).count v.given ((v.slot, v.number) ∷ []) (past_grows t.count (after n).count v.given (grown n) old.past)
               (let e : (after n).count v.slot ≡ v.number = ap (after n).count same ∙ count in omega arith, tt))),
-          is_set code k.last t s.views slot id (h.tagged.owner slot) (h.tagged.slot slot inside) own.1,
+          is_set k.last t s.views slot id (h.tagged.owner slot) (h.tagged.slot slot inside) own.1,
         )
 
   pub sets_bit : (id : ℕ) (me : Me (Option J) View) → me.0.role ≡ Free → Allows (Kept code k) slots id me group (λ n. bit_or n mask) (SetBit (step slots group mask 0 none) me)

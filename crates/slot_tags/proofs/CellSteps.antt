@@ -41,7 +41,7 @@ module _ {J : Type 0} (code : J → Gv) (k : Sizes) (id : ℕ) (v w : View) (s :
             record { same = λ y lt apart. (refl, refl, set_else s.homes v.slot y x apart); grows = λ y. omega arith }
             (λ lt. inr mine.1) (λ y has. sym (only v.slot y (has_as v.role r v.slot y role has)))
             (λ lt. (
-              is_set code k.last t s.views v.slot id (h.tagged.owner v.slot) (h.tagged.slot v.slot lt) mine.1,
+              is_set k.last t s.views v.slot id (h.tagged.owner v.slot) (h.tagged.slot v.slot lt) mine.1,
               (w, replaced s.views id w v at, subst₂ (λ z y. HasSlot z y v.slot) (sym role') (sym same.0) (own' v.slot)),
             ))
             (λ y has. (sym (sym same.0 ∙ only' w.slot y (has_as w.role q w.slot y role' has)), mine.0, refl))

@@ -52,7 +52,7 @@ module _ {J : Type 0} (code : J → Gv) (k : Sizes) (slot : ℕ) (inside : slot 
         let old = h.tagged.seat id v at in
         let own = old.owns slot (subst (λ r. HasSlot r v.slot slot) (sym role) same) in
         let count : (after n).count v.slot ≡ n = ap (after n).count same ∙ count_here k.groups slot s.words n inside h.words in
-        let set_bit : t.bit slot ≡ 1 = is_set code k.last t s.views slot id (h.tagged.owner slot) (h.tagged.slot slot inside) own.1 in
+        let set_bit : t.bit slot ≡ 1 = is_set k.last t s.views slot id (h.tagged.owner slot) (h.tagged.slot slot inside) own.1 in
         record {
           words = length-set s.words (k.groups + slot) n ∙ h.words;
           homes = h.homes;

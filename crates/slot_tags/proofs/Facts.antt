@@ -35,6 +35,16 @@ limit_as r q known last e h = subst (λ z. KnowsLast z known last) e h
 pub nowhere : {S : Type 0} (slots : ℕ) (t : Slots S) → OnlyAt slots slots t t
 nowhere slots t = record { same = λ x lt n. (refl, refl, refl); grows = λ x. omega arith }
 
+module _ {J : Type 0} where
+  -- a slot whose bit is clear is free
+  pub is_free : (last : ℕ) (t : Slots (Option J)) (views : List View) (x : ℕ) (q : mathlib.Core.Option.Option ℕ) → Stands last t views x q → t.bit x ≡ 0 → (q ≡ none) × (t.cell x ≡ some (some None)) × (t.count x < last)
+  is_free last t views x none h clear = (refl, h.0, ⊎_elim (λ (a : (t.bit x ≡ 0) × (t.count x < last)). a.1) (λ (a : (t.bit x ≡ 1) × (t.count x ≡ last)). let b = a.0 in absurd (omega arith)) h.1)
+  is_free last t views x (some i) h clear = let a = h.0 in absurd (omega arith)
+
+  -- the bit of a slot that a seat has is set
+  pub is_set : (last : ℕ) (t : Slots (Option J)) (views : List View) (x i : ℕ) (q : mathlib.Core.Option.Option ℕ) → Stands last t views x q → q ≡ some i → t.bit x ≡ 1
+  is_set last t views x i q h e = (subst (λ z. Stands last t views x z) e h).0
+
 module _ {J : Type 0} (code : J → Gv) where
   pub holds_as : (r q : Role) (last : ℕ) (t : Slots (Option J)) (slot number : ℕ) (job : Option JobCode) → r ≡ q → HoldsAs code r last t slot number job → HoldsAs code q last t slot number job
   holds_as r q last t slot number job e h = subst (λ z. HoldsAs code z last t slot number job) e h
@@ -46,15 +56,6 @@ module _ {J : Type 0} (code : J → Gv) where
   pub code_none : (x : Option J) → code_of code x ≡ None → x ≡ None
   code_none None e = refl
   code_none (Some x) e = absurd (cc)
-
-  -- a slot whose bit is clear is free
-  pub is_free : (last : ℕ) (t : Slots (Option J)) (views : List View) (x : ℕ) (q : mathlib.Core.Option.Option ℕ) → Stands last t views x q → t.bit x ≡ 0 → (q ≡ none) × (t.cell x ≡ some (some None)) × (t.count x < last)
-  is_free last t views x none h clear = (refl, h.0, ⊎_elim (λ (a : (t.bit x ≡ 0) × (t.count x < last)). a.1) (λ (a : (t.bit x ≡ 1) × (t.count x ≡ last)). let b = a.0 in absurd (omega arith)) h.1)
-  is_free last t views x (some i) h clear = let a = h.0 in absurd (omega arith)
-
-  -- the bit of a slot that a seat has is set
-  pub is_set : (last : ℕ) (t : Slots (Option J)) (views : List View) (x i : ℕ) (q : mathlib.Core.Option.Option ℕ) → Stands last t views x q → q ≡ some i → t.bit x ≡ 1
-  is_set last t views x i q h e = (subst (λ z. Stands last t views x z) e h).0
 
   -- a load leaves the words as they were
   pub loaded : (k : Sizes) (words : List ℕ) (homes : List (mathlib.Core.Option.Option (Option J))) (views : List View) (i : ℕ) → Kept code k record { words = words; homes = homes; views = views }

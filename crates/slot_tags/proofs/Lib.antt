@@ -7,3 +7,4 @@ pub mod CellSteps
 pub mod SeatSteps
 pub mod Badges
 pub mod Tries
+pub mod RuleLaws

@@ -111,7 +111,7 @@ module _ {J : Type 0} (code : J → Gv) (k : Sizes) where
       (λ lt. inr mine.1) (λ x a. sym (has_as w.role Held w.slot x role a))
       (λ lt. (
         holds.2.1 ∙ ap (λ (y : Option J). some (some y)) (code_none code holds.2.0 (holds.2.2 ∙ can.1)),
-        inr (is_set code k.last t views w.slot id (h.owner w.slot) (h.slot w.slot lt) mine.1, let a = holds.0 in let b = holds.1 in let c = can.0 in omega arith),
+        inr (is_set k.last t views w.slot id (h.owner w.slot) (h.slot w.slot lt) mine.1, let a = holds.0 in let b = holds.1 in let c = can.0 in omega arith),
       ))
       (λ x a. absurd a) tt tt tt
   ends Open t views id w h at role can = absurd can

@@ -17,14 +17,18 @@ pub struct Full<J> {
     pub job: J,
 }
 
-/// A slot seat: what a thread takes tags with, and gives them back through.
+/// What a thread takes tags with, and gives them back through. It has no bytes. It is one of the table
+/// with which it was made.
 #[derive(Drop)]
 pub struct SlotSeat<J> {
     pub(crate) seat: TableSeat<J>,
     pub(crate) ghost role: { seat.me.0.role ≡ Splitter },
 }
 
-/// Slots in groups of 32, each free, held by a tag with a job or with none, or used up.
+/// Slots in groups of 32. Each is free, or held by a tag with a job or with none, or used up.
+///
+/// Threads share it by reference. Its calls neither wait for another thread nor take memory, but for
+/// [`SlotTable::new`].
 #[derive(Drop)]
 pub struct SlotTable<J> {
     steps: StepTable<J>,
@@ -33,8 +37,9 @@ pub struct SlotTable<J> {
 impl<J: Drop> SlotTable<J> {
     ghost use Rattle.slot_tags.specs.Tags.{groups_of, last_of, IsNewSeatOf};
 
-    /// A table of `groups` times 32 free slots, each of which can be given `last` times, with its slot
-    /// seats.
+    /// A table of `groups` times 32 free slots, each of which can be taken `last` times, and its slot
+    /// seats, as many as `seats`. There are 1 to 32 groups and 1 to 64 seats, and `last` is at least 1.
+    /// It fails for want of memory alone.
     pub fn new(
         alloc: Global,
         groups: u32,
@@ -62,11 +67,12 @@ impl<J> SlotTable<J> {
     ghost use Rattle.slot_tags.specs.Seats.{IsAt, Same};
     ghost use Rattle.slot_tags.specs.Tags.{slot_of, number_of, job_of, notes_of_tag, SameTag, HasJob, last_of, capacity_of, notes_of, given_of, IsSeatOf, IsTagOf};
 
-    /// Takes the first slot whose bit is found clear, and gives a tag that is full with `job`. The slot's
-    /// counter rises by 1, from 0 at its first take, and is the tag's number.
+    /// Takes the first slot whose bit it finds clear, and gives a tag that is full with `job`. The slot's
+    /// counter rises by 1, from 0 at its first take, and is the tag's number: 1 to the table's last number.
     ///
-    /// `Full` comes only where this call made one fetch_or on each slot and each found its bit set. A call
-    /// that runs while other threads take and give may find each slot held at some moment.
+    /// `Full` hands the job back. It comes only where this call made one fetch_or on each slot and each
+    /// found its bit set. While other threads take and give, that may be so though no moment had all bits
+    /// set. On one thread the least free slot is taken, and `Full` comes where none is free.
     pub fn take(&self, seat: &mut SlotSeat<J>, job: J) -> Result<SlotTag, Full<J>>
         requires { IsSeatOf self.now seat.old }
         ensures seat { IsSeatOf self.now seat.new × (given_of seat.new ≡ given_of seat.old) }
@@ -93,7 +99,7 @@ impl<J> SlotTable<J> {
         })
     }
 
-    /// Takes the job out from under a full tag.
+    /// Takes the job out from under a full tag, which is empty from then on.
     pub fn lift(&self, seat: &mut SlotSeat<J>, tag: &mut SlotTag) -> J
         requires seat { IsSeatOf self.now seat.old }
         requires tag { IsTagOf self.now tag.old }
@@ -144,7 +150,7 @@ impl<J> SlotTable<J> {
         self.steps.join_tag(&mut seat.seat, ended);
     }
 
-    // Tries each slot in turn until one's bit is found clear, which is won.
+    // Sets the bit of each slot in turn until one is found clear, whose slot is won.
     fn win(&self, tag: &mut TableSeat<J>) -> Option<u32>
         requires at { IsAt self.now.steps tag.old }
         requires role { tag.old.me.0.role ≡ Role.Free }
@@ -160,7 +166,7 @@ impl<J> SlotTable<J> {
         None
     }
 
-    /// Puts `new` into the cell of the tag's slot, in place of what lay there.
+    // Puts `new` into the cell of the tag's slot, and gives what lay there.
     pub(crate) fn exchange_job(
         &self,
         tag: &mut TableSeat<J>,

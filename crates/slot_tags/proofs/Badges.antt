@@ -1,5 +1,5 @@
 -- A badge whose view shows something has one view.
-use Rattle.std.proofs.Common.{◌≡◌, ℕ, Bool, true, false, List, [], ◌∷◌, map, refl, sym, ap, ◌∙◌, true≢false}
+use Rattle.std.proofs.Common.{◌≡◌, ℕ, Bool, true, List, [], ◌∷◌, map, refl, sym, true≢false}
 use Rattle.slot_tags.specs.declared.view.Role.{Role}
 use Rattle.slot_tags.specs.declared.view.Role.TheVariants.{Splitter, Free, Won, Held, Open, Given, Spent}
 use Rattle.slot_tags.specs.declared.view.View.{View}

@@ -1,5 +1,5 @@
 -- The fetch_or and the fetch_and of a slot's bit keep the rule.
-use Rattle.std.proofs.Common.{◌≡◌, ◌≢◌, ◌⊎◌, ℕ, ◌+◌, ◌-◌, ◌*◌, ◌/◌, ◌%◌, ◌^◌, ◌≤◌, ◌<◌, cond, ◌==◌, List, [], ◌∷◌, ◌++◌, length, set, refl, sym, ap, ◌∙◌, subst, subst₂, inl, inr, ⊎_elim, arith, Option, Some, None, length-set}
+use Rattle.std.proofs.Common.{◌≡◌, ◌≢◌, ◌⊎◌, ℕ, ◌*◌, ◌/◌, ◌%◌, ◌^◌, ◌≤◌, ◌<◌, List, [], ◌∷◌, ◌++◌, set, refl, sym, ap, ◌∙◌, subst, subst₂, inl, inr, ⊎_elim, arith, Option, None, length-set}
 use Rattle.std.specs.Prelude.{slice_index, bit_or, bit_and}
 use Rattle.std.specs.Int.{bit_at, bit_not, w64}
 use Rattle.std.proofs.lemmas.Bool.{eq-eqb, ne_eqb}
@@ -10,14 +10,14 @@ use native.Mathlib.Decide.{ℕ_discrete}
 use lib.ListN.{get_elem?}
 use base.Stored.{Gv}
 use Rattle.atomic_table.specs.Table.{State, Me, step, stepped, Allows, keeps}
-use Rattle.slot_tags.specs.declared.view.Role.TheVariants.{Free, Won, Held, Given}
-use Rattle.slot_tags.specs.declared.view.Note.TheVariants.{FetchOr, FetchAnd}
+use Rattle.slot_tags.specs.declared.view.Role.TheVariants.{Free, Won, Held}
+use Rattle.slot_tags.specs.declared.view.Note.TheVariants.{FetchOr}
 use Rattle.slot_tags.specs.declared.view.Sizes.{Sizes}
 use Rattle.slot_tags.specs.declared.view.View.{View}
 use Rattle.slot_tags.specs.Rule.{Slots, slots_of, HasSlot, Kept, Tagged}
 use Rattle.slot_tags.specs.Steps.{noted, tried, cleared, SetBit, ClearedBit}
 use Rattle.slot_tags.proofs.Words.{slot_is, bit_here, bit_else, counts_stay}
-use Rattle.slot_tags.proofs.Frame.{OnlyAt, moved, still, replaced, past_append, past_grows}
+use Rattle.slot_tags.proofs.Frame.{moved, still, replaced, past_append, past_grows}
 use Rattle.slot_tags.proofs.Facts.{free_bare, has_as, limit_as, holds_as, holds_from, code_none, is_free, is_set}
 
 module _ {J : Type 0} (code : J → Gv) (k : Sizes) (slot : ℕ) (inside : slot < 32 * k.groups) where

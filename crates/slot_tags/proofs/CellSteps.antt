@@ -1,10 +1,10 @@
 -- The cell of a tag's slot goes out to the tag's seat, and comes home.
-use Rattle.std.proofs.Common.{◌≡◌, ◌≢◌, ◌⊎◌, ℕ, ◌+◌, ◌*◌, ◌≤◌, ◌<◌, List, [], ◌∷◌, ◌++◌, length, set, refl, sym, ap, ◌∙◌, subst, subst₂, inl, inr, arith, Option, Some, None, length-set}
+use Rattle.std.proofs.Common.{◌≡◌, ℕ, ◌*◌, ◌<◌, [], ◌∷◌, set, refl, sym, ◌∙◌, subst, subst₂, inr, arith, Option, length-set}
 use Rattle.std.specs.Prelude.{slice_index}
 use mathlib.Core.Option.{some, none}
 use lib.ListN.{get_elem?}
 use base.Stored.{Gv}
-use Rattle.atomic_table.specs.Table.{State, Me, step, stepped, Allows, takes, gives, rest}
+use Rattle.atomic_table.specs.Table.{State, Me, step, Allows, takes, gives}
 use Rattle.atomic_table.proofs.Lists.{set_else, set_here}
 use Rattle.slot_tags.specs.declared.view.Role.{Role}
 use Rattle.slot_tags.specs.declared.view.Role.TheVariants.{Held, Open}
@@ -12,7 +12,7 @@ use Rattle.slot_tags.specs.declared.view.Sizes.{Sizes}
 use Rattle.slot_tags.specs.declared.view.View.{View}
 use Rattle.slot_tags.specs.Rule.{Slots, slots_of, HasSlot, KnowsLast, HoldsAs, Kept, code_of, Lies}
 use Rattle.slot_tags.specs.Steps.{opened, closed, OpenedCell, ClosedCell}
-use Rattle.slot_tags.proofs.Frame.{OnlyAt, moved, replaced, past_grows}
+use Rattle.slot_tags.proofs.Frame.{moved, replaced}
 use Rattle.slot_tags.proofs.Facts.{has_as, limit_as, holds_as, is_set, loaded}
 
 module _ {J : Type 0} (code : J → Gv) (k : Sizes) (id : ℕ) (v w : View) (s : State (Option J) View) (h : Kept code k s) (at : get_elem? s.views id ≡ some v) where

@@ -1,5 +1,5 @@
 -- The fetch_add of a slot's counter keeps the rule.
-use Rattle.std.proofs.Common.{◌≡◌, ◌≢◌, ◌⊎◌, ℕ, ◌+◌, ◌*◌, ◌%◌, ◌^◌, ◌≤◌, ◌<◌, List, [], ◌∷◌, ◌++◌, length, set, refl, sym, ap, ◌∙◌, subst, subst₂, inl, inr, arith, Option, Some, None, length-set}
+use Rattle.std.proofs.Common.{◌≡◌, ◌≢◌, ℕ, ◌+◌, ◌*◌, ◌%◌, ◌^◌, ◌≤◌, ◌<◌, List, [], ◌∷◌, set, refl, sym, ap, ◌∙◌, subst, subst₂, inr, arith, Option, None, length-set}
 use Rattle.std.specs.Prelude.{slice_index}
 use mathlib.Core.Option.{some, none}
 use mathlib.Core.Logic.{dite}
@@ -13,7 +13,7 @@ use Rattle.slot_tags.specs.declared.view.View.{View}
 use Rattle.slot_tags.specs.Rule.{Slots, slots_of, HasSlot, ArePast, Kept}
 use Rattle.slot_tags.specs.Steps.{counted, CountedUp, IsNewer}
 use Rattle.slot_tags.proofs.Words.{count_here, count_else, bits_stay}
-use Rattle.slot_tags.proofs.Frame.{OnlyAt, moved, replaced, past_grows}
+use Rattle.slot_tags.proofs.Frame.{moved, replaced, past_grows}
 use Rattle.slot_tags.proofs.Facts.{has_as, limit_as, holds_as, is_set}
 
 -- a number above a slot's counter is above those of all its tags

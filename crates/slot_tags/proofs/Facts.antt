@@ -1,18 +1,15 @@
 -- What the rule says of one seat and of its slot.
-use Rattle.std.proofs.Common.{◌≡◌, ◌≢◌, ◌⊎◌, ℕ, ◌+◌, ◌*◌, ◌≤◌, ◌<◌, List, [], ◌∷◌, set, refl, sym, ap, ◌∙◌, subst, inl, inr, ⊎_elim, arith, Option, Some, None}
+use Rattle.std.proofs.Common.{◌≡◌, ℕ, ◌<◌, List, set, refl, sym, subst, ⊎_elim, arith, Option, Some, None}
 use Rattle.std.specs.Prelude.{slice_index}
 use Rattle.std.proofs.lemmas.List.{set-get_or}
 use mathlib.Core.Option.{some, none}
-use lib.ListN.{get_elem?}
 use base.Stored.{Gv}
-use Rattle.atomic_table.specs.Table.{State}
 use Rattle.slot_tags.specs.declared.view.Role.{Role}
-use Rattle.slot_tags.specs.declared.view.Role.TheVariants.{Splitter, Free, Won, Held, Open, Given, Spent}
+use Rattle.slot_tags.specs.declared.view.Role.TheVariants.{Splitter, Free}
 use Rattle.slot_tags.specs.declared.view.JobCode.{JobCode}
 use Rattle.slot_tags.specs.declared.view.Sizes.{Sizes}
 use Rattle.slot_tags.specs.declared.view.View.{View}
-use Rattle.slot_tags.specs.Rule.{Slots, slots_of, HasSlot, KnowsLast, HoldsAs, Stands, Tagged, Kept, code_of, CanEnd}
-use Rattle.slot_tags.specs.Steps.{IsNewer}
+use Rattle.slot_tags.specs.Rule.{Slots, HasSlot, KnowsLast, HoldsAs, Stands, Kept, code_of}
 use Rattle.slot_tags.proofs.Frame.{OnlyAt}
 
 -- the roles that have no slot

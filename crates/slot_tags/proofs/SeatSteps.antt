@@ -1,20 +1,20 @@
 -- The opening, the splits and the join keep the rule.
-use Rattle.std.proofs.Common.{◌≡◌, ◌≢◌, ◌⊎◌, ℕ, zero, suc, ◌+◌, ◌*◌, ◌/◌, ◌%◌, ◌^◌, ◌≤◌, ◌<◌, List, [], ◌∷◌, ◌++◌, map, replicate, length, get_or, set, refl, sym, ap, ◌∙◌, subst, subst₂, inl, inr, arith, Option, Some, None}
+use Rattle.std.proofs.Common.{◌≡◌, ℕ, zero, suc, ◌+◌, ◌*◌, ◌/◌, ◌%◌, ◌^◌, ◌<◌, List, [], ◌∷◌, map, replicate, length, get_or, set, refl, sym, ap, ◌∙◌, subst, inl, inr, arith, Option, None}
 use Rattle.std.specs.Int.{bit_at}
 use Rattle.std.proofs.lemmas.Nat.Bits.{bit_at-zero}
 use mathlib.Core.Option.{some, none, some-injective, some-ne-none}
 use lib.ListN.{get_elem?}
 use base.Stored.{Gv}
-use Rattle.atomic_table.specs.Table.{State, Splits, Joins, opening}
+use Rattle.atomic_table.specs.Table.{Splits, Joins, opening}
 use Rattle.atomic_table.proofs.Lists.{set_else}
 use Rattle.slot_tags.specs.declared.view.Role.{Role}
 use Rattle.slot_tags.specs.declared.view.Role.TheVariants.{Splitter, Free, Won, Held, Open, Given, Spent}
 use Rattle.slot_tags.specs.declared.view.JobCode.{JobCode}
 use Rattle.slot_tags.specs.declared.view.Sizes.{Sizes}
 use Rattle.slot_tags.specs.declared.view.View.{View}
-use Rattle.slot_tags.specs.Rule.{Slots, slots_of, HasSlot, KnowsLast, ArePast, HoldsAs, Stands, Knows, Tagged, Kept, CanEnd}
+use Rattle.slot_tags.specs.Rule.{Slots, slots_of, HasSlot, KnowsLast, ArePast, HoldsAs, Knows, Tagged, Kept, CanEnd}
 use Rattle.slot_tags.specs.Steps.{first_view, spent, unchanged, split_off, new_tag, new_slot_seat, returned_as, joined}
-use Rattle.slot_tags.proofs.Frame.{OnlyAt, moved, still, added, replaced, past_append}
+use Rattle.slot_tags.proofs.Frame.{moved, still, added, past_append}
 use Rattle.slot_tags.proofs.Facts.{splitter_bare, has_as, limit_as, holds_as, holds_from, code_none, is_set, nowhere}
 
 zeros : (n i : ℕ) → ◌≡◌ {A = ℕ} (get_or (replicate n 0) i 0) 0

@@ -1,5 +1,5 @@
 -- The notes of a call.
-use Rattle.std.specs.Prelude.{◌≡◌, ℕ, ◌+◌, ◌%◌, ◌≤◌, ◌<◌, List, [], ◌∷◌, ◌++◌, length, Option}
+use Rattle.std.specs.Prelude.{◌≡◌, ℕ, ◌+◌, ◌%◌, ◌≤◌, ◌<◌, List, [], ◌∷◌, ◌++◌, length, Option, Some, None}
 use Rattle.std.specs.Int.{bit_at}
 use Rattle.atomic_table.specs.Table.{Me}
 use Rattle.slot_tags.specs.declared.view.Role.TheVariants.{Won}
@@ -62,3 +62,8 @@ module _ {J : Type 0} where
     pub lower_set : EachFoundSet 0 lower
     pub clear : bit_at found (slot % 32) ≡ 0
     pub me_is : me' ≡ (record me.0 { role = Won; slot = slot; notes = (me.0.notes ++ lower) ++ FetchOr slot found ∷ [] }, me.1)
+
+  -- the first n slots were tried in turn until one was won
+  abbrev pub Sought : ℕ → Me (Option J) View → Me (Option J) View → Option ℕ → Type 0
+  Sought n me me' None = Missed n me me'
+  Sought n me me' (Some slot) = (slot < n) × WonSlot slot me me'

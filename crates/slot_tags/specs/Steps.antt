@@ -1,5 +1,5 @@
 -- What each kind of step makes of a view, and what it tells.
-use Rattle.std.specs.Prelude.{◌≡◌, ℕ, ◌+◌, ◌*◌, ◌%◌, ◌^◌, ◌<◌, cond, ◌==◌, List, [], ◌∷◌, ◌++◌, Option, Some, None}
+use Rattle.std.specs.Prelude.{◌≡◌, ℕ, ◌+◌, ◌*◌, ◌%◌, ◌^◌, ◌<◌, cond, ◌==◌, List, [], ◌∷◌, ◌++◌, Option, None}
 use Rattle.std.specs.Int.{bit_at, trailing_zeros, w64}
 use base.Stored.{Gv}
 use Rattle.atomic_table.specs.Table.{Step, Me, rest}

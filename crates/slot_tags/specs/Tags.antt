@@ -1,13 +1,15 @@
 -- Tags, slot seats and tables, as contracts see them.
-use Rattle.std.specs.Prelude.{◌≡◌, ℕ, ◌+◌, ◌*◌, ◌<◌, List, [], ◌∷◌, ◌++◌, Option, Some, None}
+use Rattle.std.specs.Prelude.{◌≡◌, ℕ, ◌+◌, ◌*◌, List, [], ◌∷◌, ◌++◌, Option, Some, Result, Ok, Err}
 use base.Stored.{Gv}
 use Rattle.atomic_table.specs.Seated.{TableId}
 use Rattle.slot_tags.specs.declared.view.JobCode.{JobCode}
 use Rattle.slot_tags.specs.declared.view.Note.{Note}
-use Rattle.slot_tags.specs.declared.view.View.{View}
 use Rattle.slot_tags.specs.declared.tag.SlotTag.{SlotTag}
+use Rattle.slot_tags.specs.declared.view.Note.TheVariants.{Split}
+use Rattle.slot_tags.specs.declared.slot_table.Full.{Full}
 use Rattle.slot_tags.specs.declared.slot_table.SlotSeat.{SlotSeat}
 use Rattle.slot_tags.specs.declared.slot_table.SlotTable.{SlotTable}
+use Rattle.slot_tags.specs.Notes.{Took, WasFull, GaveBack}
 use Rattle.slot_tags.specs.Shown.{view_of}
 
 -- a tag: its slot, its number, and the two in one value
@@ -83,3 +85,12 @@ module _ {J : Type 0} where
   -- the tag is one of this table
   abbrev pub IsTagOf : SlotTable J → SlotTag → Type 0
   IsTagOf table tag = table_of_tag tag ≡ table_of table
+
+  -- the notes of a take: a tag's seat was split off, and the tag has the notes of its own steps; or the table was full
+  abbrev pub TakeNotes : SlotTable J → SlotSeat J → SlotSeat J → Result SlotTag (Full J) → Type 0
+  TakeNotes table s s' (Ok t) = (notes_of s' ≡ notes_of s ++ Split ∷ []) × Took (slot_of t) (number_of t) (notes_of_tag t)
+  TakeNotes table s s' (Err f) = WasFull (capacity_of table) (notes_of s) (notes_of s')
+
+  -- the notes of a give
+  abbrev pub GiveNotes : SlotTable J → SlotSeat J → SlotSeat J → SlotTag → Type 0
+  GiveNotes table s s' t = GaveBack (slot_of t) (number_of t) (last_of table) (notes_of s) (notes_of_tag t) (notes_of s')

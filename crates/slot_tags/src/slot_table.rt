@@ -3,11 +3,11 @@ ghost use Rattle.std.specs.Prelude.{◌≡◌, ℕ, ◌+◌, ◌*◌, ◌<◌, �
 ghost use Rattle.slot_tags.specs.declared.view.Role.TheVariants.{Splitter};
 ghost use Rattle.slot_tags.specs.Rule.{code_of};
 ghost use Rattle.slot_tags.specs.Steps.{closed, IsNewer};
-ghost use Rattle.slot_tags.specs.Notes.{Took, WasFull, GaveBack, Missed, WonSlot};
+ghost use Rattle.slot_tags.specs.Notes.{Sought};
 
 use crate::step_table::{StepTable, TableSeat};
 use crate::tag::SlotTag;
-use crate::view::{Note, Role};
+use crate::view::Role;
 use plain_data::OutOfMemory;
 use std::alloc::Global;
 
@@ -65,14 +65,16 @@ impl<J: Drop> SlotTable<J> {
 
 impl<J> SlotTable<J> {
     ghost use Rattle.slot_tags.specs.Seats.{IsAt, Same};
-    ghost use Rattle.slot_tags.specs.Tags.{slot_of, number_of, job_of, notes_of_tag, SameTag, HasJob, last_of, capacity_of, notes_of, given_of, IsSeatOf, IsTagOf};
+    ghost use Rattle.slot_tags.specs.Tags.{slot_of, number_of, job_of, SameTag, HasJob, last_of, capacity_of, given_of, IsSeatOf, IsTagOf, TakeNotes, GiveNotes};
 
-    /// Takes the first slot whose bit it finds clear, and gives a tag that is full with `job`. The slot's
-    /// counter rises by 1, from 0 at its first take, and is the tag's number: 1 to the table's last number.
+    /// Takes the first slot whose bit it finds clear, and gives a tag that is full with `job`. The
+    /// slot's counter rises by 1, from 0 at its first take, and is the tag's number: 1 to the
+    /// table's last number.
     ///
-    /// `Full` hands the job back. It comes only where this call made one fetch_or on each slot and each
-    /// found its bit set. While other threads take and give, that may be so though no moment had all bits
-    /// set. On one thread the least free slot is taken, and `Full` comes where none is free.
+    /// `Full` hands the job back. It comes only where this call made one fetch_or on each slot and
+    /// each found its bit set. While other threads take and give, that may be so though at no moment
+    /// all bits were set. On one thread the least free slot is taken, and `Full` comes exactly where
+    /// none is free.
     pub fn take(&self, seat: &mut SlotSeat<J>, job: J) -> Result<SlotTag, Full<J>>
         requires { IsSeatOf self.now seat.old }
         ensures seat { IsSeatOf self.now seat.new × (given_of seat.new ≡ given_of seat.old) }
@@ -80,7 +82,7 @@ impl<J> SlotTable<J> {
         ensures slot { IfOk result (λ t. slot_of t < capacity_of self.now) }
         ensures number { IfOk result (λ t. (1 ≤ number_of t) × (number_of t ≤ last_of self.now)) }
         ensures new { IfOk result (λ t. IsNewer (slot_of t) (number_of t) (given_of seat.old)) }
-        ensures notes { MatchResult result (λ t. (notes_of seat.new ≡ notes_of seat.old ++ Note.Split ∷ []) × Took (slot_of t) (number_of t) (notes_of_tag t)) (λ _. WasFull (capacity_of self.now) (notes_of seat.old) (notes_of seat.new)) }
+        ensures notes { TakeNotes self.now seat.old seat.new result }
         ensures job { IfErr result (λ f. f.job ≡ job) }
     {
         let mut tag = self.steps.split_tag(&mut seat.seat);
@@ -127,15 +129,15 @@ impl<J> SlotTable<J> {
         let None = had else { unreachable!() };
     }
 
-    /// Ends an empty tag. Its slot is free again where the tag's number is below the last one; else it is
-    /// used up, and never given again.
+    /// Ends an empty tag. Its slot is free again where the tag's number is below the table's last
+    /// one. Else it is used up, and never given again.
     pub fn give(&self, seat: &mut SlotSeat<J>, tag: SlotTag)
         requires seat { IsSeatOf self.now seat.old }
         requires tag { IsTagOf self.now tag }
         requires empty { job_of tag ≡ None }
         ensures seat { IsSeatOf self.now seat.new }
         ensures given { given_of seat.new ≡ given_of seat.old ++ (slot_of tag, number_of tag) ∷ [] }
-        ensures notes { GaveBack (slot_of tag) (number_of tag) (last_of self.now) (notes_of seat.old) (notes_of_tag tag) (notes_of seat.new) }
+        ensures notes { GiveNotes self.now seat.old seat.new tag }
     {
         let SlotTag {
             slot,
@@ -155,7 +157,7 @@ impl<J> SlotTable<J> {
         requires at { IsAt self.now.steps tag.old }
         requires role { tag.old.me.0.role ≡ Role.Free }
         ensures same { Same tag.old tag.new }
-        ensures won { MatchOption result (Missed (capacity_of self.now) tag.old.me tag.new.me) (λ slot. (slot < capacity_of self.now) × WonSlot slot tag.old.me tag.new.me) }
+        ensures won { Sought (capacity_of self.now) tag.old.me tag.new.me result }
     {
         for slot in 0..32 * self.steps.groups {
             let found = self.steps.set_bit(tag, slot);

@@ -1,5 +1,5 @@
-//! The table, with one function for each kind of step. It is private to this module, so that no other body
-//! makes a step or adds a note.
+//! The table, with one function for each kind of step. It is private to this module, so that no other
+//! body makes a step or adds a note.
 ghost use Rattle.std.specs.Prelude.{◌≡◌, ◌⊎◌, ℕ, ◌+◌, ◌*◌, ◌/◌, ◌%◌, ◌^◌, ◌<◌, ◌≤◌, [], ◌∷◌, Option, Some, None, IfOk};
 ghost use Rattle.std.specs.Int.{bit_at};
 ghost use Rattle.slot_tags.specs.Rule.{code_of, CanEnd};
@@ -63,7 +63,8 @@ impl<J> StepTable<J> {
         requires slot { (tag.old.me.0.slot ≡ slot) × (slot < 32 * self.now.groups) }
         ensures same { Same tag.old tag.new }
         ensures me { tag.new.me ≡ (counted result tag.old.me.0, tag.old.me.1) }
-        ensures told { (result < tag.old.me.0.last) × (result + 1 < 2 ^ 32) × IsNewer slot (result + 1) tag.old.me.0.given }
+        ensures below { (result < tag.old.me.0.last) × (result + 1 < 2 ^ 32) }
+        ensures new { IsNewer slot (result + 1) tag.old.me.0.given }
     {
         self.table
             .shared
@@ -75,7 +76,8 @@ impl<J> StepTable<J> {
         requires at { IsAt self.now tag.old }
         requires role { tag.old.me.0.role ≡ Role.Held }
         ensures same { Same tag.old tag.new }
-        ensures me { (x : Option J) × (code_of J.row.coded.code x ≡ tag.old.me.0.job) × (tag.new.me ≡ (opened tag.old.me.0, (tag.old.me.0.slot, x) ∷ tag.old.me.1)) }
+        ensures me { (x : Option J) × (code_of J.row.coded.code x ≡ tag.old.me.0.job)
+            × (tag.new.me ≡ (opened tag.old.me.0, (tag.old.me.0.slot, x) ∷ tag.old.me.1)) }
     {
         self.table.shared.load::<OpensCell>(tag, 0);
     }
@@ -85,7 +87,8 @@ impl<J> StepTable<J> {
         requires at { IsAt self.now tag.old }
         requires cell { (x : Option J) × (tag.old.me.1 ≡ (slot, x) ∷ []) }
         ensures same { Same tag.old tag.new }
-        ensures cell { (tag.old.me.1 ≡ (slot, result) ∷ []) × (tag.new.me ≡ (tag.old.me.0, (slot, new) ∷ [])) }
+        ensures old { tag.old.me.1 ≡ (slot, result) ∷ [] }
+        ensures new { tag.new.me ≡ (tag.old.me.0, (slot, new) ∷ []) }
     {
         self.table.shared.exchange(tag, slot as usize, new)
     }
@@ -96,12 +99,14 @@ impl<J> StepTable<J> {
         requires role { (tag.old.me.0.role ≡ Role.Open) × (tag.old.me.0.slot ≡ slot) }
         requires cell { (x : Option J) × (tag.old.me.1 ≡ (slot, x) ∷ []) }
         ensures same { Same tag.old tag.new }
-        ensures me { (x : Option J) × (tag.old.me.1 ≡ (slot, x) ∷ []) × (tag.new.me ≡ (closed (code_of J.row.coded.code x) tag.old.me.0, [])) }
+        ensures me { (x : Option J) × (tag.old.me.1 ≡ (slot, x) ∷ [])
+            × (tag.new.me ≡ (closed (code_of J.row.coded.code x) tag.old.me.0, [])) }
     {
         self.table.shared.load::<ClosesCell>(tag, 0);
     }
 
-    /// A fetch_and that clears the bit of the tag's slot, and gives the word of the slot's group as it was.
+    /// A fetch_and that clears the bit of the tag's slot, and gives the word of the slot's group as it
+    /// was.
     pub(crate) fn clear_bit(&self, tag: &mut TableSeat<J>, slot: u32) -> u64
         requires at { IsAt self.now tag.old }
         requires role { (tag.old.me.0.role ≡ Role.Held) × (tag.old.me.0.job ≡ None) }
@@ -151,7 +156,8 @@ impl<J: Drop> StepTable<J> {
         last: u32,
     ) -> Result<(StepTable<J>, TableSeat<J>), OutOfMemory>
         requires { (0 < groups) × (groups ≤ 32) × (0 < last) }
-        ensures { IfOk result (λ r. (r.0.groups ≡ groups) × (r.0.last ≡ last) × IsAt r.0 r.1 × (r.1.me ≡ (first_view record { groups = groups; last = last }, []))) }
+        ensures table { IfOk result (λ r. (r.0.groups ≡ groups) × (r.0.last ≡ last)) }
+        ensures seat { IfOk result (λ r. IsAt r.0 r.1 × (r.1.me ≡ (first_view record { groups = groups; last = last }, []))) }
     {
         let words = vec![in alloc; 0u64; 33 * groups as usize]?;
         let sizes = Sizes { groups, last };

@@ -38,6 +38,25 @@ pub fn turn(table: &SlotTable<u64>, seat: &mut SlotSeat<u64>, job: u64) -> Optio
     if lifted == job { Some(value) } else { None }
 }
 
+/// Takes a tag with `job`, lifts the job again and gives the tag back. The job comes back in any case.
+pub fn through<J>(table: &SlotTable<J>, seat: &mut SlotSeat<J>, job: J) -> J
+    requires { IsSeatOf table.now seat.old }
+    ensures seat { IsSeatOf table.now seat.new }
+    ensures job { result ≡ job }
+{
+    match table.take(seat, job) {
+        Ok(mut tag) => {
+            let lifted = table.lift(seat, &mut tag);
+            table.give(seat, tag);
+            lifted
+        }
+        Err(full) => {
+            let Full { job } = full;
+            job
+        }
+    }
+}
+
 /// Whether a take is refused, and hands its job back.
 pub fn is_full(table: &SlotTable<u64>, seat: &mut SlotSeat<u64>, job: u64) -> bool
     requires { IsSeatOf table.now seat.old }

@@ -3,10 +3,11 @@ ghost use Rattle.std.specs.Prelude.{◌≡◌, ◌+◌, ◌≤◌, All, vec_len,
 ghost use Rattle.std.specs.Thread.{IsSync};
 ghost use Rattle.slot_tags.specs.Tags.{IsSeatOf};
 
-use crate::tables::turn;
+use crate::tables::{through, turn};
 use plain_data::OutOfMemory;
-use slot_tags::{SlotSeat, SlotTable};
+use slot_tags::{SlotSeat, SlotTable, SlotTag};
 use std::alloc::Global;
+use std::sync::Arc;
 use std::test::*;
 use std::thread::{Threads, join};
 
@@ -95,6 +96,24 @@ fn four_take<R: Threads + Sync>(
     )
 }
 
+/// A job that shares a table of other jobs.
+#[derive(Drop)]
+struct Work {
+    table: Arc<SlotTable<u64>, Global>,
+}
+
+fn may_be_sent<T: Send>() {}
+
+fn may_be_shared<T: Sync>() {}
+
+// The parts of a table cross threads where its jobs do.
+fn parts_cross_threads<J: Send>() {
+    may_be_sent::<SlotTag>();
+    may_be_sent::<SlotSeat<J>>();
+    may_be_sent::<SlotTable<J>>();
+    may_be_shared::<SlotTable<J>>();
+}
+
 // The last of these seats, which are the table's.
 fn next_seat(table: &SlotTable<u64>, seats: &mut Vec<SlotSeat<u64>>) -> SlotSeat<u64>
     requires some { 1 ≤ vec_len seats.old }
@@ -152,5 +171,21 @@ fn four_threads_share_one_slot(rt: HostRuntime) -> Result<(), Fail> {
         .iter()
         .fold(0u64, |sum, count| sum.wrapping_add(*count));
     assert_eq!(rt; sum, u64::from(LAST));
+    Ok(())
+}
+
+#[test]
+fn jobs_may_share_a_table(rt: HostRuntime) -> Result<(), Fail> {
+    parts_cross_threads::<u64>();
+    parts_cross_threads::<Work>();
+    let (inner, mut inner_seats) = opened_for_threads(rt.alloc(), 9)?;
+    let mut inner_seat = next_seat(&inner, &mut inner_seats);
+    let (table, mut seats) = SlotTable::<Work>::new(rt.alloc(), 1, 2, 1)?;
+    let mut seat = seats.pop().ok_or("no seat")?;
+    let work = Work {
+        table: Arc::new(rt.alloc(), inner)?,
+    };
+    let work = through(&table, &mut seat, work);
+    assert_eq!(rt; turn(&work.table, &mut inner_seat, 3), Some(4_294_967_296));
     Ok(())
 }

@@ -1,5 +1,6 @@
 //! The values of tags, and the jobs under them.
-use crate::tables::{is_full, opened, taken, turn};
+use crate::tables::{is_full, opened, taken, through, turn};
+use slot_tags::SlotTable;
 use std::test::*;
 
 #[test]
@@ -36,5 +37,15 @@ fn a_tag_is_emptied_and_filled(rt: HostRuntime) -> Result<(), Fail> {
     assert_eq!(rt; table.lift(&mut seat, &mut tag), 2);
     assert_eq!(rt; tag.value(), 4_294_967_296);
     table.give(&mut seat, tag);
+    Ok(())
+}
+
+#[test]
+fn a_job_may_own_memory(rt: HostRuntime) -> Result<(), Fail> {
+    let (table, mut seats) = SlotTable::<String>::new(rt.alloc(), 1, 2, 1)?;
+    let mut seat = seats.pop().ok_or("no seat")?;
+    let job = format!(in rt.alloc(); "a job of {} words", 5)?;
+    let job = through(&table, &mut seat, job);
+    assert_eq!(rt; job.as_str(), "a job of 5 words");
     Ok(())
 }

@@ -1,4 +1,4 @@
-use Rattle.std.proofs.Common.{◌%◌, ◌∙◌, sym}
+use Rattle.std.proofs.Common.{◌%◌, ◌∙◌}
 use Rattle.std.proofs.lemmas.Nat.Bits.{shr_and_one}
 use Rattle.slot_tags.proofs.Tries.{missed_more}
 use Rattle.slot_tags.proofs.slot_table.SlotTable.win.Goals as goal

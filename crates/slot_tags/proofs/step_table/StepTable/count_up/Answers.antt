@@ -1,4 +1,4 @@
-use Rattle.std.proofs.Common.{◌≡◌, ℕ, ◌+◌, ◌*◌, ◌/◌, ◌<◌, sym, ap, ◌∙◌, subst, arith}
+use Rattle.std.proofs.Common.{arith}
 use Rattle.slot_tags.proofs.CountSteps.{counts_up_as}
 use Rattle.slot_tags.proofs.step_table.StepTable.count_up.Goals as goal
 

@@ -1,4 +1,4 @@
-use Rattle.std.proofs.Common.{◌≡◌, ℕ, ◌+◌, ◌*◌, ◌/◌, ◌<◌, ◌^◌, sym, ap, ◌∙◌, arith}
+use Rattle.std.proofs.Common.{◌∙◌, arith}
 use Rattle.slot_tags.proofs.SeatSteps.{opens}
 use Rattle.slot_tags.proofs.step_table.StepTable.new.Goals as goal
 

@@ -1,4 +1,4 @@
-use Rattle.std.proofs.Common.{◌≡◌, ℕ, ◌+◌, ◌*◌, ◌/◌, ◌<◌, sym, ap, ◌∙◌, arith}
+use Rattle.std.proofs.Common.{arith}
 use Rattle.slot_tags.proofs.CellSteps.{opens_cell_as}
 use Rattle.slot_tags.proofs.step_table.StepTable.open_cell.Goals as goal
 

@@ -1,4 +1,4 @@
-use Rattle.std.proofs.Common.{◌≡◌, ℕ, ◌+◌, ◌*◌, ◌/◌, ◌<◌, sym, ap, ◌∙◌, arith}
+use Rattle.std.proofs.Common.{ap, ◌∙◌, arith}
 use Rattle.slot_tags.proofs.BitSteps.{sets_bit_as}
 use Rattle.slot_tags.proofs.Words.{slot_is}
 use Rattle.slot_tags.specs.Steps.{tried}

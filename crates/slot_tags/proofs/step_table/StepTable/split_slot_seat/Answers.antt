@@ -1,4 +1,4 @@
-use Rattle.std.proofs.Common.{◌≡◌, ℕ, ◌+◌, ◌*◌, ◌/◌, ◌<◌, ◌^◌, sym, ap, ◌∙◌, arith}
+use Rattle.std.proofs.Common.{arith}
 use Rattle.slot_tags.proofs.SeatSteps.{splits_slot_seat_as}
 use Rattle.slot_tags.proofs.step_table.StepTable.split_slot_seat.Goals as goal
 

@@ -1,6 +1,6 @@
 -- What the rule says at every moment, in sentences of its own.
-use Rattle.std.proofs.Common.{◌≡◌, ◌⊎◌, ℕ, ◌*◌, ◌≤◌, ◌<◌, sym, ap, ◌∙◌, inl, inr, ⊎_elim, arith, Option, None}
-use mathlib.Core.Option.{some, none, some-injective}
+use Rattle.std.proofs.Common.{◌≡◌, ◌⊎◌, ℕ, zero, suc, ◌*◌, ◌≤◌, ◌<◌, List, [], ◌∷◌, sym, ap, ◌∙◌, inl, inr, ⊎_elim, arith, Option, None}
+use mathlib.Core.Option.{some, none, some-injective, some-ne-none}
 use lib.ListN.{get_elem?}
 use base.Stored.{Gv}
 use Rattle.atomic_table.specs.Table.{State}
@@ -10,7 +10,18 @@ use Rattle.slot_tags.specs.declared.view.JobCode.{JobCode}
 use Rattle.slot_tags.specs.declared.view.Sizes.{Sizes}
 use Rattle.slot_tags.specs.declared.view.View.{View}
 use Rattle.slot_tags.specs.Rule.{Slots, slots_of, HasSlot, HoldsAs, Lies, Stands, Kept}
+use Rattle.slot_tags.specs.Steps.{IsNewer}
 use Rattle.slot_tags.proofs.Facts.{is_free, holds_as}
+
+-- a tag that is newer than those of its slot in a list isn't among them
+pub newer_is_not_among : (slot number : ℕ) (xs : List (ℕ × ℕ)) → IsNewer slot number xs → (i : ℕ) → get_elem? xs i ≡ some (slot, number) → ⊥
+newer_is_not_among slot number [] newer i at = some-ne-none (slot, number) (sym at)
+newer_is_not_among slot number (x ∷ xs) newer zero at =
+    let same : x ≡ (slot, number) = some-injective x (slot, number) at in
+    let below : x.1 < number = newer.0 (ap (λ (y : ℕ × ℕ). y.0) same) in
+    let e : x.1 ≡ number = ap (λ (y : ℕ × ℕ). y.1) same in
+    absurd (omega arith)
+newer_is_not_among slot number (x ∷ xs) newer (suc i) at = newer_is_not_among slot number xs newer.1 i at
 
 module _ {J : Type 0} (code : J → Gv) (k : Sizes) where
   -- the counter of a slot that a view has

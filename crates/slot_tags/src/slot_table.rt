@@ -1,5 +1,5 @@
 //! A table of tagged slots, and its seats.
-ghost use Rattle.std.specs.Prelude.{◌≡◌, ℕ, ◌+◌, ◌*◌, ◌<◌, ◌≤◌, [], ◌∷◌, ◌++◌, Some, None, true, All, vec_len, is_some, IfOk, IfErr, MatchOption, MatchResult};
+ghost use Rattle.std.specs.Prelude.{◌≡◌, ◌+◌, ◌*◌, ◌<◌, ◌≤◌, [], ◌∷◌, ◌++◌, Some, None, true, All, vec_len, is_some, IfOk, IfErr};
 ghost use Rattle.slot_tags.specs.declared.view.Role.TheVariants.{Splitter};
 ghost use Rattle.slot_tags.specs.Rule.{code_of};
 ghost use Rattle.slot_tags.specs.Steps.{closed, IsNewer};
@@ -17,8 +17,8 @@ pub struct Full<J> {
     pub job: J,
 }
 
-/// What a thread takes tags with, and gives them back through. It has no bytes. It is one of the table
-/// with which it was made.
+/// What a thread takes tags with, and gives them back through. It has no bytes, and is one of the
+/// table with which it was made.
 #[derive(Drop)]
 pub struct SlotSeat<J> {
     pub(crate) seat: TableSeat<J>,
@@ -38,7 +38,7 @@ impl<J: Drop> SlotTable<J> {
     ghost use Rattle.slot_tags.specs.Tags.{groups_of, last_of, IsNewSeatOf};
 
     /// A table of `groups` times 32 free slots, each of which can be taken `last` times, and its slot
-    /// seats, as many as `seats`. There are 1 to 32 groups and 1 to 64 seats, and `last` is at least 1.
+    /// seats, `seats` of them. There are 1 to 32 groups and 1 to 64 seats, and `last` is at least 1.
     /// It fails for want of memory alone.
     pub fn new(
         alloc: Global,
@@ -101,7 +101,7 @@ impl<J> SlotTable<J> {
         })
     }
 
-    /// Takes the job out from under a full tag, which is empty from then on.
+    /// Takes the job out from under a full tag of this table, which is empty from then on.
     pub fn lift(&self, seat: &mut SlotSeat<J>, tag: &mut SlotTag) -> J
         requires seat { IsSeatOf self.now seat.old }
         requires tag { IsTagOf self.now tag.old }
@@ -117,7 +117,7 @@ impl<J> SlotTable<J> {
         job
     }
 
-    /// Puts a job under an empty tag.
+    /// Puts a job under an empty tag of this table, which is full from then on.
     pub fn put(&self, seat: &mut SlotSeat<J>, tag: &mut SlotTag, job: J)
         requires seat { IsSeatOf self.now seat.old }
         requires tag { IsTagOf self.now tag.old }
@@ -129,7 +129,7 @@ impl<J> SlotTable<J> {
         let None = had else { unreachable!() };
     }
 
-    /// Ends an empty tag. Its slot is free again where the tag's number is below the table's last
+    /// Ends an empty tag of this table. Its slot is free again where the tag's number is below the table's last
     /// one. Else it is used up, and never given again.
     pub fn give(&self, seat: &mut SlotSeat<J>, tag: SlotTag)
         requires seat { IsSeatOf self.now seat.old }

@@ -1,6 +1,6 @@
 //! The table, with one function for each kind of step. It is private to this module, so that no other
 //! body makes a step or adds a note.
-ghost use Rattle.std.specs.Prelude.{◌≡◌, ◌⊎◌, ℕ, ◌+◌, ◌*◌, ◌/◌, ◌%◌, ◌^◌, ◌<◌, ◌≤◌, [], ◌∷◌, Option, Some, None, IfOk};
+ghost use Rattle.std.specs.Prelude.{◌≡◌, ◌+◌, ◌*◌, ◌/◌, ◌%◌, ◌^◌, ◌<◌, ◌≤◌, [], ◌∷◌, Option, None, IfOk};
 ghost use Rattle.std.specs.Int.{bit_at};
 ghost use Rattle.slot_tags.specs.Rule.{code_of, CanEnd};
 ghost use Rattle.slot_tags.specs.Steps.{first_view, new_slot_seat, split_off, new_tag, joined, tried, counted, opened, closed, cleared, IsNewer};

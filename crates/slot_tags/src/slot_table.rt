@@ -5,7 +5,7 @@ ghost use Rattle.slot_tags.specs.Rule.{code_of};
 ghost use Rattle.slot_tags.specs.Steps.{closed, IsNewer};
 ghost use Rattle.slot_tags.specs.Notes.{Sought};
 
-use crate::step_table::{StepTable, TableSeat};
+use crate::step_table::{SLOTS_PER_GROUP, StepTable, TableSeat};
 use crate::tag::SlotTag;
 use crate::view::Role;
 use plain_data::OutOfMemory;
@@ -159,9 +159,9 @@ impl<J> SlotTable<J> {
         ensures same { Same tag.old tag.new }
         ensures won { Sought (capacity_of self.now) tag.old.me tag.new.me result }
     {
-        for slot in 0..32 * self.steps.groups {
+        for slot in 0..SLOTS_PER_GROUP * self.steps.groups {
             let found = self.steps.set_bit(tag, slot);
-            if found >> (slot % 32) & 1 == 0 {
+            if found >> (slot % SLOTS_PER_GROUP) & 1 == 0 {
                 return Some(slot);
             }
         }

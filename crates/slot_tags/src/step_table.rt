@@ -14,6 +14,9 @@ use atomic_table::{Seat, Table};
 use plain_data::OutOfMemory;
 use std::alloc::Global;
 
+/// The slots of a group. Their bits lie in one word.
+pub(crate) const SLOTS_PER_GROUP: u32 = 32;
+
 /// A seat of the table, whose cells hold jobs.
 pub(crate) type TableSeat<J> = Seat<Option<J>, View>;
 
@@ -51,9 +54,11 @@ impl<J> StepTable<J> {
         ensures same { Same tag.old tag.new }
         ensures me { tag.new.me ≡ (tried slot result tag.old.me.0, tag.old.me.1) }
     {
-        self.table
-            .shared
-            .fetch_or::<SetsBit>(tag, (slot / 32) as usize, 1u64 << (slot % 32))
+        self.table.shared.fetch_or::<SetsBit>(
+            tag,
+            (slot / SLOTS_PER_GROUP) as usize,
+            1u64 << (slot % SLOTS_PER_GROUP),
+        )
     }
 
     /// A fetch_add of 1 to the counter of the slot that was won, which gives the counter as it was.
@@ -116,9 +121,11 @@ impl<J> StepTable<J> {
         ensures me { tag.new.me ≡ (cleared result tag.old.me.0, tag.old.me.1) }
         ensures told { bit_at result (slot % 32) ≡ 1 }
     {
-        self.table
-            .shared
-            .fetch_and::<ClearsBit>(tag, (slot / 32) as usize, !(1u64 << (slot % 32)))
+        self.table.shared.fetch_and::<ClearsBit>(
+            tag,
+            (slot / SLOTS_PER_GROUP) as usize,
+            !(1u64 << (slot % SLOTS_PER_GROUP)),
+        )
     }
 
     /// Joins a tag's seat into a slot seat. A tag whose number is the last keeps its slot's bit set, so
@@ -159,9 +166,14 @@ impl<J: Drop> StepTable<J> {
         ensures table { IfOk result (λ r. (r.0.groups ≡ groups) × (r.0.last ≡ last)) }
         ensures seat { IfOk result (λ r. IsAt r.0 r.1 × (r.1.me ≡ (first_view record { groups = groups; last = last }, []))) }
     {
-        let words = vec![in alloc; 0u64; 33 * groups as usize]?;
+        let words = vec![in alloc; 0u64; ((SLOTS_PER_GROUP + 1) * groups) as usize]?;
         let sizes = Sizes { groups, last };
-        let (table, seat) = Table::vacant(alloc, words.as_slice(), 32 * groups as usize, &sizes)?;
+        let (table, seat) = Table::vacant(
+            alloc,
+            words.as_slice(),
+            (SLOTS_PER_GROUP * groups) as usize,
+            &sizes,
+        )?;
         Ok((
             StepTable {
                 table,

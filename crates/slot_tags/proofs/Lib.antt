@@ -1,0 +1,10 @@
+pub mod Words
+pub mod Frame
+pub mod Facts
+pub mod BitSteps
+pub mod CountSteps
+pub mod CellSteps
+pub mod SeatSteps
+pub mod Badges
+pub mod Tries
+pub mod RuleLaws

@@ -1,5 +1,5 @@
 -- A sound's samples block by block.
-use Rattle.std.proofs.Common.{◌≡◌, ℕ, ◌+◌, ◌*◌, List, [], ◌++◌, refl, sym, ◌∙◌, ap, arith, zero-add, add-one, mul-suc, append_assoc, append-nil}
+use Rattle.std.proofs.Common.{◌≡◌, ℕ, ◌+◌, ◌*◌, List, ◌++◌, sym, ◌∙◌, ap, arith, zero-add, add-one, mul-suc, append_assoc, append-nil}
 use Rattle.std.proofs.lemmas.Grind.{flat_map-append}
 use Rattle.wave_write.specs.Header.{header}
 use Rattle.wave_write.specs.Samples.{packed, packed_sample}

@@ -1,6 +1,5 @@
 -- A file that is created, gets its bytes at once, and is finished.
-use Rattle.std.proofs.Common.{◌≡◌, ◌≢◌, ◌∙◌, ℕ, List, [], Option, Some, IfSome, Result, Ok, Err, refl, sym, ap, subst}
-use Rattle.std.specs.Option.{option_map}
+use Rattle.std.proofs.Common.{◌≡◌, ◌≢◌, ◌∙◌, ℕ, List, Option, IfSome, Result, refl, sym, ap, subst}
 use Rattle.std.specs.Result.{IsErrAnd}
 use Rattle.std.proofs.lemmas.Result.{err_from_is_err_and}
 use Rattle.plain_data.proofs.Lists.{IfSome-at}
@@ -8,7 +7,7 @@ use Rattle.snd_io.specs.declared.answers.Put.{Put}
 use Rattle.snd_io.specs.declared.answers.Put.TheVariants.{Done, Failed, OutOfMemory}
 use Rattle.snd_io.specs.declared.answers.PutFault.{PutFault}
 use Rattle.snd_io.specs.Answers.{Creates, Appends, put_of, put_fault_of}
-use Rattle.snd_io.specs.Files.{Told, put_file}
+use Rattle.snd_io.specs.Files.{Told}
 use Rattle.snd_io.specs.Runs.{SetsFile}
 use Rattle.snd_io.proofs.RunLemmas.{run-append, set-run, set-failed}
 

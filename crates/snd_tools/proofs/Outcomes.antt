@@ -1,5 +1,5 @@
 -- From what the parts of a command gave to what its status says.
-use Rattle.std.proofs.Common.{◌≡◌, ◌⊎◌, ℕ, Bool, true, false, List, [], ◌∷◌, Option, Some, None, Result, Ok, Err, IfSome, String, Global, string_bytes, refl, ◌∙◌, ap, sym, subst, inl, inr}
+use Rattle.std.proofs.Common.{◌≡◌, ◌⊎◌, ℕ, true, false, List, [], ◌∷◌, Some, Result, Ok, Err, String, Global, string_bytes, refl, ◌∙◌, ap, sym, subst, inl, inr}
 use Rattle.std.specs.Option.{option_map}
 use Rattle.std.specs.Result.{IsErrAnd}
 use Rattle.std.proofs.lemmas.Result.{err_from_is_err_and}
@@ -12,12 +12,12 @@ use Rattle.snd_io.proofs.PrefixLemmas.{IsPrefix-all}
 use Rattle.snd_io.specs.Files.{Files, Told, put_file}
 use Rattle.snd_status.specs.Statuses.{Ending, Success, NoMemory, Refusal, DepotFailure, TextFailure, ending, put_status}
 use Rattle.snd_status.specs.declared.status.Status.{Status}
-use Rattle.snd_status.specs.declared.status.Status.TheVariants.{Done, OutOfMemory, Usage, DepotFault, Absent, TooLong, Script, File, TextFault}
+use Rattle.snd_status.specs.declared.status.Status.TheVariants.{OutOfMemory, DepotFault}
 use Rattle.snd_tools.specs.Counts.{CountsDepot, may_have_failed}
 use Rattle.snd_tools.specs.Meets.{put_all, IsWrittenInPart, IsLeft, IsWritten, StopsAs, Stops, Works, IsPrinted, MayPrint, MeetsAs, Meets}
 use Rattle.snd_tools.specs.Outcome.{OutputFile, Outcome, Report, comes_to, IsRefused, MayReport, status_line}
 use Rattle.snd_tools.specs.Reading.{◌>>=◌, EndsAs, Ends, GivesBy, is_depot_failure, is_depot_fault, ends_work, stopped_by_depot}
-use Rattle.snd_tools.specs.Printing.{PrintsDoneAs, PrintsDone, PrintsOr, Prints, TellsAs, Tells, has_line, has_outcome_line}
+use Rattle.snd_tools.specs.Printing.{PrintsDoneAs, PrintsOr, Prints, TellsAs, Tells, has_outcome_line}
 
 -- ---- the statuses of each ending that has one alone
 

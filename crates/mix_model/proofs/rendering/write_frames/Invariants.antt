@@ -1,4 +1,4 @@
-use Rattle.std.proofs.Common.{◌≡◌, ◌≤◌, ◌-◌, ◌++◌}
+use Rattle.std.proofs.Common.{◌≡◌, ◌-◌, ◌++◌}
 use Rattle.std.specs.Option.{option_map}
 use Rattle.mix_model.specs.Rendering.{data_of, frames_before, IsRendered}
 use Rattle.mix_model.proofs.rendering.write_frames.Given as goal

@@ -1,4 +1,4 @@
-use Rattle.std.proofs.Common.{◌∙◌, ap, refl, inl, inr, arith}
+use Rattle.std.proofs.Common.{◌∙◌, ap, refl, inl, inr}
 use Rattle.std.specs.Option.{option_map}
 use Rattle.snd_status.specs.declared.status.Status.TheVariants.{OutOfMemory}
 use Rattle.snd_status.specs.Statuses.{put_status}

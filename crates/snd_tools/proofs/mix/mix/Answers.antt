@@ -1,7 +1,6 @@
 use Rattle.std.proofs.Common.{◌∙◌, ap, refl, sym, subst, Ok, arith}
 use Rattle.std.specs.Option.{option_map}
 use Rattle.plain_data.proofs.Lists.{IfSome-at}
-use Rattle.snd_io.specs.Answers.{put_fault_of}
 use Rattle.snd_io.specs.Files.{put_file}
 use Rattle.snd_io.proofs.FaultLemmas.{Rose-within}
 use Rattle.snd_io.specs.MemText.{mem_text}

@@ -1,4 +1,4 @@
-use Rattle.std.proofs.Common.{rules, append_assoc}
+use Rattle.std.proofs.Common.{append_assoc}
 use Rattle.snd_status.proofs.mix_report.MixReportDisplay.fmt.Goals as goal
 
 pub returns-clause-writes : goal.returns-clause-writes

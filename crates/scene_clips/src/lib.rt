@@ -9,9 +9,13 @@
 //! by number are those of that list.
 #![tactic(auto)]
 
+mod converter;
+mod decoded_pages;
 mod laws;
 mod mixdown;
 mod scene_clip;
 
+pub use converter::Converter;
+pub use decoded_pages::DecodedPages;
 pub use laws::{clip_has_samples, no_frames_where_refused};
 pub use scene_clip::SceneClip;

@@ -88,3 +88,13 @@ pub any_second : (to : ConverterData) (first other second : List ℤ) (w c : ℕ
     → converted to first other 0 c ≡ converted to first second w c
 any_second to first other second w c weighted none =
     sym (first_only to first other 0 c (omega (arith, weighted)) refl) ∙ first_only to first second w c weighted none
+
+-- a sample that lies at a frame of the file
+pub converted_alone : (bytes : List ℕ) (w : Wave) (to : ConverterData) (n c : ℕ) (p : Point) (first : List ℤ) → wave bytes ≡ Ok w
+    → to.conversion.input_rate ≡ w.rate → p ≡ point_at to.conversion.input_rate to.conversion.output_rate n
+    → first ≡ frame_or_silence w.channels (frames bytes) p.first
+    → p.weight < to.conversion.output_rate → p.weight ≡ 0
+    → converted to first first 0 c ≡ clip_sample bytes to.conversion.output_rate to.channels n c
+converted_alone bytes w to n c p first said input_rate point first_is weighted none =
+    let second = frame_or_silence w.channels (frames bytes) (p.first + 1) in
+    any_second to first first second p.weight c weighted none ∙ converted_is bytes w to n c p first second said input_rate point first_is refl

@@ -1,5 +1,5 @@
 -- A frame of 0 past the end of a file, and frames in the scene's channels.
-use Rattle.std.proofs.Common.{◌≡◌, ℕ, zero, suc, ◌+◌, Bool, true, false, List, [], ◌∷◌, ◌++◌, length, map, take, replicate, ℤ, pos, get_or, refl, ap, ◌∙◌, arith}
+use Rattle.std.proofs.Common.{◌≡◌, ℕ, zero, suc, ◌+◌, Bool, true, false, List, [], ◌∷◌, ◌++◌, length, take, replicate, ℤ, pos, get_or, refl, ap, ◌∙◌, arith}
 use Rattle.std.specs.Prelude.{if◌then◌else◌, ◌==◌}
 use Rattle.std.proofs.lemmas.Int.{ints}
 use Rattle.std.proofs.lemmas.List.{replicate-append-replicate}
@@ -43,7 +43,7 @@ silence_heard : (channels w c : ℕ) → get_or (in_channels channels (replicate
 silence_heard channels w c =
     let silence = replicate w (pos 0) in
     let two : get_or (if length silence == 1 then silence ++ silence else take 2 silence) c (pos 0) ≡ pos 0 =
-        either (length silence == 1) (silence ++ silence) (take 2 silence) c (silent_twice w c) (silent_pair w c) in
+    either (length silence == 1) (silence ++ silence) (take 2 silence) c (silent_twice w c) (silent_pair w c) in
     either (channels == 1) (mean silence ∷ []) (if length silence == 1 then silence ++ silence else take 2 silence) c
     (silent_alone (mean silence) c (silent_mean w)) two
 

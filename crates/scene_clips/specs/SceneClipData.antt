@@ -1,5 +1,5 @@
 -- A file at a scene's rate and in its channels, as contracts see it, and what is kept of it.
-use Rattle.std.specs.Prelude.{◌≡◌, ℕ, ◌≤◌, List, Ok}
+use Rattle.std.specs.Prelude.{◌≡◌, ℕ, List, Ok}
 use Rattle.clip_decode.specs.ClipData.{ClipData}
 use Rattle.rate_fit.specs.Conversion.{IsConversion}
 use Rattle.wave_read.specs.Wave.{wave}

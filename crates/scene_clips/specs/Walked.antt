@@ -1,5 +1,5 @@
 -- A walk over the frames of a clip at the scene's rate.
-use Rattle.std.specs.Prelude.{◌≡◌, ℕ, ◌<◌, ◌^◌}
+use Rattle.std.specs.Prelude.{◌≡◌, ℕ}
 use Rattle.rate_fit.specs.Conversion.{length_of, IsConversion}
 use Rattle.rate_fit.specs.Walk.{Walk}
 use Rattle.scene_clips.specs.ClipFrames.{clip_length, file_rate}

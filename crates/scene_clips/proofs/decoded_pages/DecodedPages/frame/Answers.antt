@@ -1,5 +1,5 @@
 -- The frame stands in its page.
-use Rattle.std.proofs.Common.{◌≡◌, ◌∙◌, ◌<◌, ◌≤◌, ◌/◌, ap, sym, arith, ℤ, pos, List, take, replicate}
+use Rattle.std.proofs.Common.{◌≡◌, ◌∙◌, ◌<◌, ◌≤◌, ◌/◌, ap, sym, arith, pos, take, replicate}
 use Rattle.std.proofs.lemmas.List.{take-replicate}
 use Rattle.clip_decode.specs.Frames.{interleaved}
 use Rattle.clip_decode.specs.Pages.{page_count, page_frames}

@@ -8,6 +8,7 @@ ghost use Rattle.wave_read.specs.Wave.{wave};
 ghost use Rattle.wave_read.specs.Laws.{IsWaveOf};
 ghost use Rattle.scene_clips.specs.DecodedPages.{frame_or_silence, pages_data};
 
+use crate::file_content::FileContent;
 use clip_decode::{Clip, Cursor, FRAMES_PER_PAGE, Page, fill, pages};
 use plain_data::OutOfMemory;
 use std::alloc::Global;
@@ -19,10 +20,11 @@ const SILENCE: &[i32] = &[0, 0, 0, 0, 0, 0, 0, 0];
 
 /// The frames of a clip, decoded whole, in pages.
 ///
-/// Contracts see it as the clip: the `bytes` of the file and its `wave`.
+/// Contracts see it as the clip: the `bytes` of the file, which are not kept, and its `wave`.
 #[derive(Drop)]
 pub struct DecodedPages {
-    clip: Clip,
+    content: FileContent,
+    wave: Wave,
     pages: Vec<Page>,
 }
 
@@ -32,9 +34,9 @@ impl Model for DecodedPages {
 
     ghost Value = { ClipData };
 
-    ghost view = { λ d. record { bytes = d.clip.bytes; wave = d.clip.wave } };
+    ghost view = { λ d. record { bytes = d.content.bytes; wave = d.wave } };
 
-    ghost invariant = { λ d. AreAllPages d.clip.bytes d.clip.wave d.pages.items };
+    ghost invariant = { λ d. AreAllPages d.content.bytes d.wave d.pages.items };
 }
 
 /// All pages of a clip.
@@ -64,7 +66,8 @@ fn frame_at(samples: &[i32], place: usize, count: usize) -> &[i32]
 }
 
 impl DecodedPages {
-    /// Decodes all pages of a clip: one `i32` a sample of the file, in whole pages.
+    /// Decodes all pages of a clip: one `i32` a sample of the file, in whole pages. Nothing else of the
+    /// clip is kept.
     ///
     /// # Errors
     ///
@@ -72,10 +75,13 @@ impl DecodedPages {
     pub fn decode(alloc: Global, clip: &Clip) -> Result<DecodedPages, OutOfMemory>
         ensures { IfOk result (λ decoded. decoded ≡ clip.now) }
     {
-        clip.wave();
+        let wave = clip.wave();
         let all = decode_pages(alloc, clip)?;
-        let clip = clip.clone()?;
-        Ok(DecodedPages { clip, pages: all })
+        Ok(DecodedPages {
+            content: FileContent::of(clip.bytes()),
+            wave: *wave,
+            pages: all,
+        })
     }
 
     /// What the file says of its sound, as the clip answers it.
@@ -84,7 +90,7 @@ impl DecodedPages {
         ensures surveyed { wave self.now.bytes ≡ Ok self.now.wave }
         ensures lawful { IsWaveOf self.now.bytes self.now.wave }
     {
-        self.clip.wave()
+        &self.wave
     }
 
     /// The frame of number `n`, counted from 0: one sample of 24 bits a channel of the file, which

@@ -11,6 +11,7 @@
 
 mod converter;
 mod decoded_pages;
+mod file_content;
 mod laws;
 mod mixdown;
 mod scene_clip;

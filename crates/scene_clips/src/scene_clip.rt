@@ -46,8 +46,8 @@ fn put_pair(out: &mut [i32], k: usize, pair: (i32, i32))
 
 impl SceneClip {
     /// Decodes all pages of a clip of at most 67108864 bytes, for a scene of `rate` frames a second,
-    /// 1 to 768000, and `channels` channels, 1 or 2. It keeps the clip, whose bytes are shared, and
-    /// one `i32` a sample of the file, in whole pages.
+    /// 1 to 768000, and `channels` channels, 1 or 2. It keeps one `i32` a sample of the file, in whole
+    /// pages, and not the bytes of the file.
     ///
     /// # Errors
     ///

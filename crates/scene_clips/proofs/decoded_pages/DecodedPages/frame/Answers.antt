@@ -19,16 +19,16 @@ returns-then-n-wave-clause-value c =
 pub index-page-requires : goal.index-page-requires
 index-page-requires c =
     let inside = c.self.inside in
-    let w = inside.clip.wave in
+    let w = inside.wave in
     let said : c.args.n < c.args.self.now.wave.frames = rw c.wave-wave.ensures.value at c.if-n-wave.false in
     let below : c.args.n < w.frames = rw (← c.self.view_is) at said in
-    omega (arith, below, pages_counted inside.clip.bytes w (page_count w.frames) inside.pages.items c.self.invariant.pages, inside.pages.ok.0)
+    omega (arith, below, pages_counted inside.content.bytes w (page_count w.frames) inside.pages.items c.self.invariant.pages, inside.pages.ok.0)
 
 pub frame_at-requires-2 : goal.frame_at-requires-2
 frame_at-requires-2 c =
     let inside = c.self.inside in
-    let bytes = inside.clip.bytes in
-    let w = inside.clip.wave in
+    let bytes = inside.content.bytes in
+    let w = inside.wave in
     let said : c.args.n < c.args.self.now.wave.frames = rw c.wave-wave.ensures.value at c.if-n-wave.false in
     let below : c.args.n < w.frames = rw (← c.self.view_is) at said in
     let page = page_at bytes w (page_count w.frames) (c.args.n / 8192) inside.pages.items c.index-page.result.now
@@ -41,8 +41,8 @@ frame_at-requires-2 c =
 pub returns-clause-value : goal.returns-clause-value
 returns-clause-value c =
     let inside = c.self.inside in
-    let bytes = inside.clip.bytes in
-    let w = inside.clip.wave in
+    let bytes = inside.content.bytes in
+    let w = inside.wave in
     let said : c.args.n < c.args.self.now.wave.frames = rw c.wave-wave.ensures.value at c.if-n-wave.false in
     let below : c.args.n < w.frames = rw (← c.self.view_is) at said in
     let page = page_at bytes w (page_count w.frames) (c.args.n / 8192) inside.pages.items c.index-page.result.now

@@ -1,19 +1,17 @@
 -- The pages of a file, and the frames in them.
-use Rattle.std.proofs.Common.{◌≡◌, ℕ, zero, suc, ◌+◌, ◌-◌, ◌*◌, ◌/◌, ◌%◌, ◌<◌, ◌≤◌, min, List, [], ◌∷◌, ◌++◌, length, map, take, drop, ℤ, pos, get_or, refl, ap, sym, ◌∙◌, arith, add-one}
+use Rattle.std.proofs.Common.{◌≡◌, ℕ, zero, suc, ◌+◌, ◌-◌, ◌*◌, ◌/◌, ◌%◌, ◌<◌, ◌≤◌, min, List, [], ◌∷◌, ◌++◌, length, map, take, drop, replicate, ℤ, pos, get_or, refl, ap, sym, ◌∙◌, arith, add-one}
 use Rattle.std.specs.Prelude.{Ok}
 use Rattle.std.specs.List.{range_with_len}
 use Rattle.std.proofs.Math.Nat.{mul-le-mul_right}
-use Rattle.std.proofs.lemmas.List.{ext_get_or, get_or-take, get_or-drop, get_or-map, length-drop, length-map, length-take-le}
+use Rattle.std.proofs.lemmas.List.{ext_get_or, get_or-take, get_or-drop, length-drop, length-take-le}
 use Rattle.std.proofs.lemmas.List.FromFn.{length-map-range_with_len, get_or-map-range_with_len}
 use Rattle.clip_decode.specs.Frames.{frame_by, frames, interleaved}
 use Rattle.clip_decode.specs.Pages.{page_frames, PageData}
 use Rattle.clip_decode.specs.Samples.{sample_of}
 use Rattle.clip_decode.proofs.PageLists.{page_by_number, length_joined, joined_at}
-use Rattle.rate_fit.specs.Channels.{in_channels}
 use Rattle.wave_read.specs.Wave.{wave}
 use Rattle.wave_read.specs.declared.wave.Wave.{Wave}
-use Rattle.scene_clips.specs.ClipFrames.{all_in_channels, sample_or_zero}
-use Rattle.scene_clips.specs.SceneClipData.{page_data, pages_data}
+use Rattle.scene_clips.specs.DecodedPages.{page_data, pages_data, frame_or_silence}
 
 mapped_more : {X : Type 0} (f : ℕ → X) (a n : ℕ) → map f (range_with_len a (suc n)) ≡ map f (range_with_len a n) ++ f (a + n) ∷ []
 mapped_more f a zero = let first : a ≡ a + 0 = omega arith in ap (λ k. f k ∷ []) first
@@ -41,11 +39,11 @@ pub frames_counted : (bytes : List ℕ) (w : Wave) → wave bytes ≡ Ok w → l
 unfolding frames
 frames_counted bytes w said = rw said (length-map-range_with_len (λ n. frame_by (sample_of bytes w n) w.channels) 0 w.frames)
 
-frame_of : (bytes : List ℕ) (w : Wave) (n : ℕ) → wave bytes ≡ Ok w → n < w.frames
-    → get_or (frames bytes) n [] ≡ frame_by (sample_of bytes w n) w.channels
+frame_of : (bytes : List ℕ) (w : Wave) (n : ℕ) (d : List ℤ) → wave bytes ≡ Ok w → n < w.frames
+    → get_or (frames bytes) n d ≡ frame_by (sample_of bytes w n) w.channels
 unfolding frames
-frame_of bytes w n said below =
-    rw said (get_or-map-range_with_len (λ k. frame_by (sample_of bytes w k) w.channels) 0 w.frames n n [] below (omega arith))
+frame_of bytes w n d said below =
+    rw said (get_or-map-range_with_len (λ k. frame_by (sample_of bytes w k) w.channels) 0 w.frames n n d below (omega arith))
 
 -- a frame of those that are joined
 module _ (f : ℕ → List ℤ) (ch : ℕ) (width : (n : ℕ) → length (f n) ≡ ch) where
@@ -88,21 +86,13 @@ module _ (bytes : List ℕ) (w : Wave) (frame : ℕ) (said : wave bytes ≡ Ok w
   frame_fits = rw listed (part_fits made w.channels wide (8192 * (frame / 8192)) held (frame % 8192) inside)
 
   -- the frame, as its page has it
-  frame_in_page : take w.channels (drop (frame % 8192 * w.channels) (interleaved (page_frames bytes (frame / 8192)))) ≡ get_or (frames bytes) frame []
+  pub frame_in_page : take w.channels (drop (frame % 8192 * w.channels) (interleaved (page_frames bytes (frame / 8192))))
+      ≡ frame_or_silence w.channels (frames bytes) frame
   unfolding made
   frame_in_page =
       let place : 8192 * (frame / 8192) + frame % 8192 ≡ frame = omega arith in
       rw listed (joined_part made w.channels wide (8192 * (frame / 8192)) held (frame % 8192) inside)
-      ∙ ap made place ∙ sym (frame_of bytes w frame said below)
-
-  -- and its sample in the scene's channels
-  pub sample_heard : (channels c : ℕ)
-      → get_or (in_channels channels (take w.channels (drop (frame % 8192 * w.channels) (interleaved (page_frames bytes (frame / 8192)))))) c (pos 0)
-      ≡ sample_or_zero (all_in_channels channels (frames bytes)) frame c
-  sample_heard channels c =
-      ap (λ xs. get_or (in_channels channels xs) c (pos 0)) frame_in_page
-      ∙ ap (λ xs. get_or xs c (pos 0))
-      (sym (get_or-map (in_channels channels) (frames bytes) frame [] [] (omega (arith, below, frames_counted bytes w said))))
+      ∙ ap made place ∙ sym (frame_of bytes w frame (replicate w.channels (pos 0)) said below)
 
 get_or_past : {X : Type 0} (xs : List X) (i : ℕ) (d : X) → length xs ≤ i → get_or xs i d ≡ d
 get_or_past [] i d past = refl
@@ -110,9 +100,7 @@ get_or_past (x ∷ xs) zero d past = absurd (omega arith)
 get_or_past (x ∷ xs) (suc i) d past = get_or_past xs i d (omega arith)
 
 -- past the last frame there is silence
-pub nothing_past_end : (bytes : List ℕ) (w : Wave) (channels frame c : ℕ) → wave bytes ≡ Ok w → w.frames ≤ frame
-    → sample_or_zero (all_in_channels channels (frames bytes)) frame c ≡ pos 0
-nothing_past_end bytes w channels frame c said past =
-    let list = all_in_channels channels (frames bytes) in
-    let count : length list ≡ w.frames = length-map (frames bytes) (in_channels channels) ∙ frames_counted bytes w said in
-    ap (λ xs. get_or xs c (pos 0)) (get_or_past list frame [] (omega (arith, count, past)))
+pub silence_past_end : (bytes : List ℕ) (w : Wave) (n : ℕ) → wave bytes ≡ Ok w → w.frames ≤ n
+    → frame_or_silence w.channels (frames bytes) n ≡ replicate w.channels (pos 0)
+silence_past_end bytes w n said past =
+    get_or_past (frames bytes) n (replicate w.channels (pos 0)) (omega (arith, frames_counted bytes w said, past))

@@ -1,2 +1,5 @@
 pub mod ClipFrames
+pub mod ConverterData
+pub mod DecodedPages
 pub mod SceneClipData
+pub mod Walked

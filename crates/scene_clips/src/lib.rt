@@ -2,16 +2,29 @@
 //!
 //! A [`SceneClip`] is a clip that is decoded whole, once. Its samples are read by the numbers of
 //! their frame and their channel, in any order: each takes at most two frames of the file, brings
-//! them to the scene's channels, and blends them where it lies between the two.
+//! them to the scene's channels, and blends them where it lies between the two. Where a scene has
+//! two channels, [`SceneClip::pairs`] reads frames in order, left and right together, by a walker
+//! that divides only where it begins.
+//!
+//! It is made of two parts. [`DecodedPages`] keeps the frames of the file, in its own channels and
+//! at its own rate, and answers each by its number; the bytes of the file are not kept. A
+//! [`Converter`] keeps no frame: it says between which two frames of the file one of the scene
+//! lies, and makes its samples of these two.
 //!
 //! `specs/ClipFrames.antt` says which these are: the list of the file's frames, converted to the
 //! scene's channels frame by frame and then to its rate. [`clip_has_samples`] says that the samples
-//! by number are those of that list.
+//! by number are those of that list. The contracts speak of the bytes of the file though they are
+//! not kept: a `FileContent` takes no memory and carries them for the proofs.
 #![tactic(auto)]
 
+mod converter;
+mod decoded_pages;
+mod file_content;
 mod laws;
 mod mixdown;
 mod scene_clip;
 
+pub use converter::Converter;
+pub use decoded_pages::DecodedPages;
 pub use laws::{clip_has_samples, no_frames_where_refused};
 pub use scene_clip::SceneClip;

@@ -1,14 +1,16 @@
-ghost use Rattle.std.specs.Prelude.{◌≡◌, ◌+◌, ◌*◌, ◌^◌, ◌<◌, ◌≤◌, length, All, take, drop, IfOk};
-ghost use Rattle.clip_decode.specs.Frames.{frames};
-ghost use Rattle.clip_decode.specs.Pages.{page_count};
-ghost use Rattle.mix_fixed.specs.Sound.{Is24};
-ghost use Rattle.scene_clips.specs.ClipFrames.{all_in_channels, clip_length, clip_sample, sample_or_zero};
-ghost use Rattle.scene_clips.specs.SceneClipData.{pages_data};
+//! A clip at a scene's rate and in its channels.
 
-use crate::mixdown::channel_of;
-use clip_decode::{Clip, Cursor, FRAMES_PER_PAGE, Page, fill, pages};
+ghost use Rattle.std.specs.Prelude.{◌≡◌, ◌+◌, ◌*◌, ◌/◌, ◌%◌, ◌^◌, ◌<◌, ◌≤◌, ℕ, pos, length, slice_index_or, IfOk};
+ghost use Rattle.mix_fixed.specs.Sound.{Is24};
+ghost use Rattle.scene_clips.specs.ClipFrames.{clip_length, clip_sample, file_rate};
+ghost use Rattle.scene_clips.specs.Walked.{IsWalkOf};
+ghost use Rattle.rate_fit.specs.Points.{point_at};
+
+use crate::converter::Converter;
+use crate::decoded_pages::DecodedPages;
+use clip_decode::Clip;
 use plain_data::OutOfMemory;
-use rate_fit::{Fit, Interpolator};
+use rate_fit::{Point, Walker};
 use std::alloc::Global;
 use std::marker::Model;
 
@@ -17,57 +19,35 @@ use std::marker::Model;
 /// Contracts see it as the `bytes` of the file and the scene's `rate` and `channels`.
 #[derive(Drop)]
 pub struct SceneClip {
-    clip: Clip,
-    pages: Vec<Page>,
-    fit: Fit,
-    interpolator: Interpolator,
-    channels: u8,
-    /// The length of `fit`, which costs a division.
-    len: u64,
+    decoded: DecodedPages,
+    converter: Converter,
 }
 
 impl Model for SceneClip {
-    ghost use Rattle.std.specs.Prelude.{◌≡◌};
-    ghost use Rattle.rate_fit.specs.Conversion.{length_of};
     ghost use Rattle.scene_clips.specs.SceneClipData.{SceneClipData, IsSceneClip};
 
     ghost Value = { SceneClipData };
 
-    ghost view = { λ s. record { bytes = s.clip.bytes; rate = s.fit.output_rate; channels = s.channels } };
+    ghost view = { λ s. record { bytes = s.decoded.bytes; rate = s.converter.conversion.output_rate; channels = s.converter.channels } };
 
-    ghost invariant = { λ s. (IsSceneClip s.clip s.pages.items s.fit s.interpolator s.channels) × (s.len ≡ length_of s.fit) };
+    ghost invariant = { λ s. IsSceneClip s.decoded s.converter };
 }
 
-/// All pages of a clip.
-fn decode_pages(alloc: Global, clip: &Clip) -> Result<Vec<Page>, OutOfMemory>
-    ensures { IfOk result (λ all. all.items
-        ≡ pages_data clip.now.bytes clip.now.wave (page_count clip.now.wave.frames)) }
+/// Puts a frame of two channels into its place.
+fn put_pair(out: &mut [i32], k: usize, pair: (i32, i32))
+    requires { 2 * k + 1 < length out.old }
+    ensures left { slice_index_or out.new (2 * k) (pos 0) ≡ pair.0 }
+    ensures right { slice_index_or out.new (2 * k + 1) (pos 0) ≡ pair.1 }
+    ensures before { (j : ℕ) → j < 2 * k → slice_index_or out.new j (pos 0) ≡ slice_index_or out.old j (pos 0) }
 {
-    let wave = clip.wave();
-    let mut all = Vec::new(alloc);
-    let mut cursor = Cursor::start();
-    for k in 0..pages(wave) {
-        let mut page = Page::new(alloc, wave.channels)?;
-        fill(&mut cursor, clip, &mut page);
-        all.push(page)?;
-    }
-    Ok(all)
-}
-
-/// The frame of `count` samples from place `place` on.
-fn frame_at(samples: &[i32], place: usize, count: usize) -> &[i32]
-    requires { place + count ≤ length samples.now }
-    ensures value { result.now ≡ take count (drop place samples.now) }
-    ensures len { length result.now ≡ count }
-    ensures range { All (λ sample. Is24 sample) samples.now → All (λ sample. Is24 sample) result.now }
-{
-    &samples[place..place + count]
+    out[2 * k] = pair.0;
+    out[2 * k + 1] = pair.1;
 }
 
 impl SceneClip {
     /// Decodes all pages of a clip of at most 67108864 bytes, for a scene of `rate` frames a second,
-    /// 1 to 768000, and `channels` channels, 1 or 2. It keeps the clip, whose bytes are shared, and
-    /// one `i32` a sample of the file, in whole pages.
+    /// 1 to 768000, and `channels` channels, 1 or 2. It keeps one `i32` a sample of the file, in whole
+    /// pages, and not the bytes of the file.
     ///
     /// # Errors
     ///
@@ -86,18 +66,9 @@ impl SceneClip {
         ensures { IfOk result (λ decoded. decoded
             ≡ record { bytes = clip.now.bytes; rate = rate; channels = channels }) }
     {
-        let wave = clip.wave();
-        let all = decode_pages(alloc, clip)?;
-        let fit = Fit::new(wave.rate, rate, wave.frames);
-        let clip = clip.clone()?;
-        Ok(SceneClip {
-            clip,
-            pages: all,
-            fit,
-            interpolator: Interpolator::new(rate),
-            channels,
-            len: fit.len(),
-        })
+        let converter = Converter::new(clip.wave(), rate, channels);
+        let decoded = DecodedPages::decode(alloc, clip)?;
+        Ok(SceneClip { decoded, converter })
     }
 
     /// The scene's channels, 1 or 2.
@@ -106,7 +77,7 @@ impl SceneClip {
         ensures least { 1 ≤ result }
         ensures most { result ≤ 2 }
     {
-        self.channels
+        self.converter.channels()
     }
 
     /// The number of frames at the scene's rate: the file's, times the scene's rate, divided by the
@@ -115,29 +86,7 @@ impl SceneClip {
         ensures value { result ≡ clip_length self.now.bytes self.now.rate }
         ensures most { result ≤ 2 ^ 28 * 768000 }
     {
-        self.len
-    }
-
-    /// The sample of a channel in a frame of the file, both counted from 0, in the scene's channels
-    /// and at the file's rate. After the last frame it is 0.
-    fn sample_in_file(&self, frame: u64, channel: u8) -> i32
-        requires channel { channel < self.now.channels }
-        ensures value { result
-            ≡ sample_or_zero (all_in_channels self.now.channels (frames self.now.bytes)) frame channel }
-        ensures range { Is24 result }
-    {
-        let wave = self.clip.wave();
-        if frame >= wave.frames {
-            return 0;
-        }
-        let page = &self.pages[(frame / FRAMES_PER_PAGE) as usize];
-        let count = usize::from(wave.channels);
-        let place = (frame % FRAMES_PER_PAGE) as usize * count;
-        channel_of(
-            frame_at(page.samples(), place, count),
-            self.channels,
-            channel,
-        )
+        self.converter.len()
     }
 
     /// The sample of a channel in a frame, both counted from 0, at the scene's rate: a number of 24
@@ -153,12 +102,56 @@ impl SceneClip {
             ≡ clip_sample self.now.bytes self.now.rate self.now.channels n channel }
         ensures range { Is24 result }
     {
-        let point = self.interpolator.at(&self.fit, n);
-        let first = self.sample_in_file(point.first, channel);
+        let point = self.converter.point(n);
+        let first = self.decoded.frame(point.first);
         if point.weight == 0 {
-            return first;
+            return self.converter.sample(first, first, 0, channel);
         }
-        let second = self.sample_in_file(point.first + 1, channel);
-        self.interpolator.blend(first, second, point.weight)
+        let second = self.decoded.frame(point.first + 1);
+        self.converter.sample(first, second, point.weight, channel)
+    }
+
+    /// The frame at a point, in two channels.
+    fn pair_at(&self, point: Point) -> (i32, i32)
+        requires two { self.now.channels ≡ 2 }
+        requires weighted { point.weight < self.now.rate }
+        requires near { point.first < 2 ^ 62 }
+        ensures left { (n : ℕ) → point ≡ point_at (file_rate self.now.bytes) self.now.rate n →
+            result.0 ≡ clip_sample self.now.bytes self.now.rate self.now.channels n 0 }
+        ensures right { (n : ℕ) → point ≡ point_at (file_rate self.now.bytes) self.now.rate n →
+            result.1 ≡ clip_sample self.now.bytes self.now.rate self.now.channels n 1 }
+        ensures left_range { Is24 result.0 }
+        ensures right_range { Is24 result.1 }
+    {
+        let first = self.decoded.frame(point.first);
+        if point.weight == 0 {
+            return self.converter.pair(first, first, 0);
+        }
+        let second = self.decoded.frame(point.first + 1);
+        self.converter.pair(first, second, point.weight)
+    }
+
+    /// A walk over the places of the frames from frame `from` on.
+    fn walk(&self, from: u64) -> Walker
+        requires { from ≤ clip_length self.now.bytes self.now.rate }
+        ensures { IsWalkOf self.now from result }
+    {
+        self.converter.walk(from)
+    }
+
+    /// Writes `count` frames from frame `from` on, in two channels, into `out`: left and right of each
+    /// frame, one frame after the other, as `sample` answers them. It divides only where it begins.
+    pub fn pairs(&self, from: u64, count: usize, out: &mut [i32])
+        requires two { self.now.channels ≡ 2 }
+        requires frames { from + count ≤ clip_length self.now.bytes self.now.rate }
+        requires room { length out.old ≡ 2 * count }
+        ensures values { (j : ℕ) → j < 2 * count → slice_index_or out.new j (pos 0)
+            ≡ clip_sample self.now.bytes self.now.rate self.now.channels (from + j / 2) (j % 2) }
+    {
+        let mut walker = self.walk(from);
+        for k in 0..count {
+            let Some(point) = walker.next() else { return };
+            put_pair(out, k, self.pair_at(point));
+        }
     }
 }

@@ -4,8 +4,8 @@ use Rattle.scene_clips.proofs.scene_clip.SceneClip.len.Goals as goal
 
 pub returns-clause-value : goal.returns-clause-value
 returns-clause-value c =
-    let inside = c.self.inside in
-    let kept = c.self.invariant.0 in
+    let clip = c.self.inside.decoded in
+    let fit = c.self.inside.converter.conversion in
+    let kept = c.self.invariant in
     rw (← c.self.view_is)
-    (c.self.invariant.1
-    ∙ sym (fit_length inside.clip.bytes inside.clip.wave inside.fit kept.surveyed kept.input_rate kept.frames))
+    (c.len.ensures.value ∙ sym (fit_length clip.bytes clip.wave fit kept.surveyed kept.input_rate kept.frames))

@@ -1,8 +1,8 @@
 -- The first k pages are decoded.
 use Rattle.std.proofs.Common.{◌≡◌}
 use Rattle.clip_decode.specs.Cursors.{StandsAt}
-use Rattle.scene_clips.specs.SceneClipData.{pages_data}
-use Rattle.scene_clips.proofs.scene_clip.decode_pages.Given as goal
+use Rattle.scene_clips.specs.DecodedPages.{pages_data}
+use Rattle.scene_clips.proofs.decoded_pages.decode_pages.Given as goal
 
 abbrev pub invariant-loop-k : goal.invariant-loop-k
 invariant-loop-k l = record {

@@ -1,7 +1,7 @@
 use Rattle.std.proofs.Common.{◌≡◌, ◌++◌, ◌∷◌, [], ◌∙◌, ap, sym, rules}
-use Rattle.scene_clips.specs.SceneClipData.{page_data, pages_data}
+use Rattle.scene_clips.specs.DecodedPages.{page_data, pages_data}
 use Rattle.scene_clips.proofs.FilePages.{pages_more}
-use Rattle.scene_clips.proofs.scene_clip.decode_pages.Goals as goal
+use Rattle.scene_clips.proofs.decoded_pages.decode_pages.Goals as goal
 
 pub loop-k-preserved : goal.loop-k-preserved
 loop-k-preserved c =

@@ -1,0 +1,113 @@
+//! All pages of a clip, decoded once.
+
+ghost use Rattle.std.specs.Prelude.{◌≡◌, ◌+◌, ◌≤◌, length, All, take, drop, IfOk};
+ghost use Rattle.clip_decode.specs.Frames.{frames};
+ghost use Rattle.clip_decode.specs.Pages.{page_count};
+ghost use Rattle.mix_fixed.specs.Sound.{Is24};
+ghost use Rattle.wave_read.specs.Wave.{wave};
+ghost use Rattle.wave_read.specs.Laws.{IsWaveOf};
+ghost use Rattle.scene_clips.specs.DecodedPages.{frame_or_silence, pages_data};
+
+use crate::file_content::FileContent;
+use clip_decode::{Clip, Cursor, FRAMES_PER_PAGE, Page, fill, pages};
+use plain_data::OutOfMemory;
+use std::alloc::Global;
+use std::marker::Model;
+use wave_read::Wave;
+
+/// A frame of 0 in the most channels that a file has.
+const SILENCE: &[i32] = &[0, 0, 0, 0, 0, 0, 0, 0];
+
+/// The frames of a clip, decoded whole, in pages.
+///
+/// Contracts see it as the clip: the `bytes` of the file, which are not kept, and its `wave`.
+#[derive(Drop)]
+pub struct DecodedPages {
+    content: FileContent,
+    wave: Wave,
+    pages: Vec<Page>,
+}
+
+impl Model for DecodedPages {
+    ghost use Rattle.clip_decode.specs.ClipData.{ClipData};
+    ghost use Rattle.scene_clips.specs.DecodedPages.{AreAllPages};
+
+    ghost Value = { ClipData };
+
+    ghost view = { λ d. record { bytes = d.content.bytes; wave = d.wave } };
+
+    ghost invariant = { λ d. AreAllPages d.content.bytes d.wave d.pages.items };
+}
+
+/// All pages of a clip.
+fn decode_pages(alloc: Global, clip: &Clip) -> Result<Vec<Page>, OutOfMemory>
+    ensures { IfOk result (λ all. all.items
+        ≡ pages_data clip.now.bytes clip.now.wave (page_count clip.now.wave.frames)) }
+{
+    let wave = clip.wave();
+    let mut all = Vec::new(alloc);
+    let mut cursor = Cursor::start();
+    for k in 0..pages(wave) {
+        let mut page = Page::new(alloc, wave.channels)?;
+        fill(&mut cursor, clip, &mut page);
+        all.push(page)?;
+    }
+    Ok(all)
+}
+
+/// The frame of `count` samples from place `place` on.
+fn frame_at(samples: &[i32], place: usize, count: usize) -> &[i32]
+    requires { place + count ≤ length samples.now }
+    ensures value { result.now ≡ take count (drop place samples.now) }
+    ensures len { length result.now ≡ count }
+    ensures range { All (λ sample. Is24 sample) samples.now → All (λ sample. Is24 sample) result.now }
+{
+    &samples[place..place + count]
+}
+
+impl DecodedPages {
+    /// Decodes all pages of a clip: one `i32` a sample of the file, in whole pages. Nothing else of the
+    /// clip is kept.
+    ///
+    /// # Errors
+    ///
+    /// [`OutOfMemory`] where there is no memory; nothing has changed then.
+    pub fn decode(alloc: Global, clip: &Clip) -> Result<DecodedPages, OutOfMemory>
+        ensures { IfOk result (λ decoded. decoded ≡ clip.now) }
+    {
+        let wave = clip.wave();
+        let all = decode_pages(alloc, clip)?;
+        Ok(DecodedPages {
+            content: FileContent::of(clip.bytes()),
+            wave: *wave,
+            pages: all,
+        })
+    }
+
+    /// What the file says of its sound, as the clip answers it.
+    pub fn wave(&self) -> &Wave
+        ensures value { result.now ≡ self.now.wave }
+        ensures surveyed { wave self.now.bytes ≡ Ok self.now.wave }
+        ensures lawful { IsWaveOf self.now.bytes self.now.wave }
+    {
+        &self.wave
+    }
+
+    /// The frame of number `n`, counted from 0: one sample of 24 bits a channel of the file, which
+    /// has 1 to 8. After the last frame of the file stands a frame of 0.
+    pub fn frame(&self, n: u64) -> &[i32]
+        ensures value { result.now ≡ frame_or_silence self.now.wave.channels (frames self.now.bytes) n }
+        ensures least { 1 ≤ length result.now }
+        ensures most { length result.now ≤ 8 }
+        ensures range { All (λ sample. Is24 sample) result.now }
+    {
+        let wave = self.wave();
+        let count = usize::from(wave.channels);
+        if n >= wave.frames {
+            return frame_at(SILENCE, 0, count);
+        }
+        let page = &self.pages[(n / FRAMES_PER_PAGE) as usize];
+        let place = (n % FRAMES_PER_PAGE) as usize * count;
+        frame_at(page.samples(), place, count)
+    }
+}

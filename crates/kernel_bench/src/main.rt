@@ -7,6 +7,8 @@
 //!   `pcm24` or `alaw` (stereo), or `ima` (mono).
 //! - `kernel_bench blends WAY RATE ROUNDS` blends [`blends::PAIRS`] pairs of samples in each round,
 //!   at a rate of 1 to 768000 Hz: `multiplied`, by a reciprocal, or `divided`.
+//! - `kernel_bench sums WORK ROUNDS` works on [`sums::SUMS`] sums in each round: `add` adds samples
+//!   to them by a gain, `settle` brings them to 24 bits.
 //!
 //! With no words it runs a few rounds of each.
 #![tactic(auto)]
@@ -19,12 +21,13 @@ mod generator;
 mod kind;
 mod order;
 mod pages;
+mod sums;
 
 use order::{Order, few_rounds};
 use std::{env, io};
 
-const USAGE: &str =
-    "usage: kernel_bench [blocks CHANNELS ROUNDS | pages KIND ROUNDS | blends WAY RATE ROUNDS]";
+const USAGE: &str = "usage: kernel_bench [blocks CHANNELS ROUNDS | pages KIND ROUNDS | \
+    blends WAY RATE ROUNDS | sums WORK ROUNDS]";
 
 fn main(rt: HostRuntime) -> io::Result<()> {
     let words: Vec<String> = env::args(&rt)?.skip(1).collect(rt.alloc())?;

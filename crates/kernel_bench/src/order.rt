@@ -4,6 +4,7 @@ use crate::blends::{self, Rate, Way};
 use crate::blocks::{self, Channels};
 use crate::kind::Kind;
 use crate::pages;
+use crate::sums::{self, Work};
 use clip_decode::ClipError;
 use std::alloc::Global;
 
@@ -16,6 +17,8 @@ pub enum Order {
     Pages(Kind, u32),
     /// Samples are blended in one of two ways, at a rate.
     Blends(Way, Rate, u32),
+    /// Sums are worked on.
+    Sums(Work, u32),
 }
 
 impl Order {
@@ -36,6 +39,10 @@ impl Order {
                 Rate::read(rate.as_str())?,
                 read_rounds(rounds.as_str())?,
             )),
+            [kernel, work, rounds] if kernel.as_str() == "sums" => Some(Order::Sums(
+                Work::read(work.as_str())?,
+                read_rounds(rounds.as_str())?,
+            )),
             _ => None,
         }
     }
@@ -49,6 +56,7 @@ impl Order {
             },
             Order::Pages(kind, rounds) => pages::checksum(alloc, kind, rounds),
             Order::Blends(way, rate, rounds) => Ok(blends::checksum(way, rate, rounds)),
+            Order::Sums(work, rounds) => Ok(sums::checksum(work, rounds)),
         }
     }
 }
@@ -58,7 +66,7 @@ fn read_rounds(word: &str) -> Option<u32> {
 }
 
 /// A few rounds of each kernel, and what they are called.
-pub fn few_rounds() -> [(&'static str, Order); 8] {
+pub fn few_rounds() -> [(&'static str, Order); 10] {
     let rate = Rate { hertz: 48_000 };
     [
         (
@@ -78,5 +86,7 @@ pub fn few_rounds() -> [(&'static str, Order); 8] {
             Order::Blends(Way::Multiplied, rate, 1),
         ),
         ("divided, 1 round", Order::Blends(Way::Divided, rate, 1)),
+        ("add, 3 rounds", Order::Sums(Work::Add, 3)),
+        ("settle, 3 rounds", Order::Sums(Work::Settle, 3)),
     ]
 }

@@ -1,0 +1,4 @@
+pub mod Attached
+pub mod Board
+pub mod InputData
+pub mod ListChanges

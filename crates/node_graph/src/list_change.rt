@@ -1,0 +1,77 @@
+//! What an edit that is done changes in the lists of the inputs.
+
+ghost use Rattle.std.specs.Prelude.{◌≡◌, ◌≤◌, length};
+ghost use Rattle.scene_model.specs.Limits as limits;
+ghost use Rattle.scene_model.specs.Wiring.{is_output, target};
+ghost use Rattle.node_graph.specs.ListChanges as spec;
+
+use scene_model::{Bus, Edit};
+
+/// A change of one list.
+#[derive(Clone, Copy)]
+pub(crate) enum ListChange {
+    /// The bus of that number is added to the list of the node `to`.
+    Added { bus: u32, to: u32 },
+    /// The bus of that number is removed from the list of the node `from`.
+    Removed { bus: u32, from: u32 },
+    /// No list changes.
+    Unchanged,
+}
+
+/// What the edit changes in the lists where it is done. The buses are those before the edit.
+pub(crate) fn list_change(buses: &[Bus], edit: &Edit) -> ListChange
+    requires { length buses.now ≤ limits.most_buses }
+    ensures { result ≡ spec.list_change buses.now edit.now }
+{
+    match *edit {
+        Edit::Attach { node, out, to } => match number_of(buses, node, out) {
+            Some(bus) => ListChange::Added { bus, to },
+            None => ListChange::Unchanged,
+        },
+        Edit::Detach { node, out } => {
+            match (number_of(buses, node, out), target(buses, node, out)) {
+                (Some(bus), Some(from)) => ListChange::Removed { bus, from },
+                _ => ListChange::Unchanged,
+            }
+        }
+        Edit::SetGain { .. }
+        | Edit::Start { .. }
+        | Edit::Stop { .. }
+        | Edit::From { .. }
+        | Edit::Until { .. }
+        | Edit::Seek { .. }
+        | Edit::Loop { .. } => ListChange::Unchanged,
+    }
+}
+
+/// The number of an output among all buses.
+fn number_of(buses: &[Bus], node: u32, out: u8) -> Option<u32>
+    requires { length buses.now ≤ limits.most_buses }
+    ensures { result ≡ spec.number_of buses.now node out }
+{
+    for (number, bus) in buses.iter().enumerate() {
+        if is_output(bus, node, out) {
+            return Some(number as u32);
+        }
+    }
+    None
+}
+
+/// The node to which an output is attached.
+fn target(buses: &[Bus], node: u32, out: u8) -> Option<u32>
+    ensures { result ≡ target buses.now node out }
+{
+    for bus in buses {
+        if is_output(bus, node, out) {
+            return bus.to;
+        }
+    }
+    None
+}
+
+/// Whether a bus is this output of this node.
+fn is_output(bus: &Bus, node: u32, out: u8) -> bool
+    ensures { result ≡ is_output node out bus.now }
+{
+    bus.node == node && bus.out == out
+}

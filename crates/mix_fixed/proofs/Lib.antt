@@ -1,2 +1,3 @@
 pub mod Lanes
+pub mod Raised
 pub mod Rounding

@@ -1,5 +1,5 @@
 -- Sums of samples by a gain, and samples of sums, place by place.
-use Rattle.std.specs.Prelude.{◌≡◌, ◌⊎◌, ℕ, ◌+◌, ◌<◌, ◌≤◌, ℤ, pos, neg_ℤ, ◌+ℤ◌, ◌≤ℤ◌, List, length, slice_index_or}
+use Rattle.std.specs.Prelude.{◌≡◌, ◌⊎◌, ℕ, ◌+◌, ◌*◌, ◌<◌, ◌≤◌, ℤ, pos, neg_ℤ, ◌+ℤ◌, ◌≤ℤ◌, List, length, slice_index_or}
 use Rattle.mix_fixed.specs.Sound.{Is24, sat24, scale}
 
 abbrev pub at : List ℤ → ℕ → ℤ
@@ -16,6 +16,15 @@ pub record IsWithin (most : ℕ) (x : ℤ) : Type 0 where
 
 abbrev pub AreWithin : ℕ → List ℤ → Type 0
 AreWithin most sums = (j : ℕ) → j < length sums → IsWithin most (at sums j)
+
+-- a sample of 24 bits by the gain is at most so far from 0
+abbrev pub most_share : ℕ → ℕ
+most_share gain = 128 * gain
+
+-- a sum of 32 bits is at most so far from 0 before a sample is added to it: 2^31 - 2^28, which leaves room for a sample by
+-- any gain
+abbrev pub most_narrow_sum : ℕ
+most_narrow_sum = 1879048192
 
 -- each sum has grown by the sample at its place, by the gain
 abbrev pub IsMixed : ℕ → List ℤ → List ℤ → List ℤ → Type 0

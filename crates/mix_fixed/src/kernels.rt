@@ -1,7 +1,7 @@
 //! Kernels: sums of samples by a gain, by lanes, and the samples of sums.
 
 ghost use Rattle.std.specs.Prelude.{◌≡◌, ℕ, ◌+◌, ◌^◌, ◌<◌, ◌≤◌, length};
-ghost use Rattle.mix_fixed.specs.Kernels.{at, AreSamples, AreWithin, IsMixed, IsSettled, IsWithin, MixedIn};
+ghost use Rattle.mix_fixed.specs.Kernels.{at, AreSamples, AreWithin, IsMixed, IsSettled, IsWithin, MixedIn, most_share};
 ghost use Rattle.mix_fixed.specs.Sound.{Is24};
 
 use crate::gain::Gain;
@@ -12,12 +12,13 @@ use std::simd::prelude::*;
 const LANES: usize = 8;
 
 /// Adds to each sum `acc[j]` the sample `x[j]`, of 24 bits, by the gain `g`, rounded down: `scale(x[j], g)`.
-/// The slices have one length, and each sum lies from -2^62 to 2^62.
+/// The slices have one length, and each sum lies from -2^62 to 2^62. It grows by at most 128 times the gain.
 pub fn add_scaled(acc: &mut [i64], x: &[i32], g: Gain)
     requires lengths { length acc.old ≡ length x.now }
     requires samples { AreSamples x.now }
     requires sums { AreWithin (2 ^ 62) acc.old }
-    ensures { IsMixed g acc.old x.now acc.new }
+    ensures mixed { IsMixed g acc.old x.now acc.new }
+    ensures within { (most : ℕ) → AreWithin most acc.old → AreWithin (most + most_share g) acc.new }
 {
     let whole = acc.len() / LANES;
     for block in 0..whole {

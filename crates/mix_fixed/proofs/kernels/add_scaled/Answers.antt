@@ -1,6 +1,7 @@
 use Rattle.std.proofs.Common.{sym, subst, ◌*◌, ◌^◌, inr, arith}
 use Rattle.mix_fixed.specs.Kernels.{IsWithin, MixedIn}
 use Rattle.mix_fixed.proofs.Lanes.{none_mixed, then_more}
+use Rattle.mix_fixed.proofs.Raised.{within_more}
 use Rattle.mix_fixed.proofs.kernels.add_scaled.Goals as goal
 
 pub loop-block-init : goal.loop-block-init
@@ -18,3 +19,8 @@ loop-block-preserved c =
 pub loop-i-preserved : goal.loop-i-preserved
 loop-i-preserved c =
     then_more c.loop-i.i 1 c.args.g c.args.acc.now c.args.x.now c.loop-i.acc c.add_one.new.acc c.loop-i.invariant c.add_one.ensures
+
+pub returns-clause-within : goal.returns-clause-within
+returns-clause-within c = λ most within.
+    within_more most c.args.g c.args.acc.now c.args.x.now c.loop-i.acc c.requires.lengths (omega arith) c.requires.samples
+    (λ j below. c.loop-i.invariant.inside j (omega arith) (omega arith)) within

@@ -1,0 +1,5 @@
+use Rattle.mix_fixed.specs.Kernels.{MixedIn}
+use Rattle.mix_fixed.proofs.narrow.add_shares.Given as goal
+
+abbrev pub invariant-loop-i : goal.invariant-loop-i
+invariant-loop-i l = MixedIn 0 l.i l.gain l.fn.acc l.x l.acc

@@ -1,3 +1,4 @@
 pub mod Lanes
 pub mod Raised
 pub mod Rounding
+pub mod Settled

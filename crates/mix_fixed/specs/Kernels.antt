@@ -38,3 +38,8 @@ pub record MixedIn (from count gain : ℕ) (old samples new : List ℤ) : Type 0
 -- each is the sample of 24 bits that is nearest to the sum at its place
 abbrev pub IsSettled : List ℤ → List ℤ → Type 0
 IsSettled sums out = (j : ℕ) → j < length sums → at out j ≡ sat24 (at sums j)
+
+-- the samples of these many places are, and those at the others are as they were
+pub record SettledIn (from count : ℕ) (sums old new : List ℤ) : Type 0 where
+  pub inside : (j : ℕ) → from ≤ j → j < from + count → at new j ≡ sat24 (at sums j)
+  pub outside : (j : ℕ) → (j < from) ⊎ (from + count ≤ j) → at new j ≡ at old j

@@ -1,7 +1,7 @@
 //! Kernels: sums of samples by a gain, by lanes, and the samples of sums.
 
 ghost use Rattle.std.specs.Prelude.{◌≡◌, ℕ, ◌+◌, ◌^◌, ◌<◌, ◌≤◌, length};
-ghost use Rattle.mix_fixed.specs.Kernels.{at, AreSamples, AreWithin, IsMixed, IsSettled, IsWithin, MixedIn, most_share};
+ghost use Rattle.mix_fixed.specs.Kernels.{at, AreSamples, AreWithin, IsMixed, IsSettled, IsWithin, MixedIn, most_share, SettledIn};
 ghost use Rattle.mix_fixed.specs.Sound.{Is24};
 
 use crate::gain::Gain;
@@ -55,13 +55,37 @@ fn add_one(acc: &mut [i64], x: &[i32], i: usize, g: Gain)
 }
 
 /// Writes to each `out[j]` the sample of 24 bits, from -8388608 to 8388607, that is nearest to the sum
-/// `acc[j]`. The slices have one length. A plain loop, of which the compiler makes lanes.
+/// `acc[j]`. The slices have one length.
 pub fn settle(acc: &[i64], out: &mut [i32])
     requires { length acc.now ≡ length out.old }
     ensures settled { IsSettled acc.now out.new }
     ensures samples { AreSamples out.new }
 {
-    for i in 0..acc.len() {
-        out[i] = sat24(acc[i]);
+    let whole = acc.len() / LANES;
+    for block in 0..whole {
+        settle_lanes(acc, out, block * LANES);
     }
+    for j in whole * LANES..acc.len() {
+        out[j] = sat24(acc[j]);
+    }
+}
+
+/// Writes the samples of the eight places from `from` on.
+fn settle_lanes(acc: &[i64], out: &mut [i32], from: usize)
+    requires sums_there { from + 8 ≤ length acc.now }
+    requires samples_there { from + 8 ≤ length out.old }
+    ensures { SettledIn from 8 acc.now out.old out.new }
+{
+    let sums = i64x8::from_array([
+        acc[from],
+        acc[from + 1],
+        acc[from + 2],
+        acc[from + 3],
+        acc[from + 4],
+        acc[from + 5],
+        acc[from + 6],
+        acc[from + 7],
+    ]);
+    let nearest = sums.simd_clamp(i64x8::splat(-8_388_608), i64x8::splat(8_388_607));
+    nearest.cast::<i32>().copy_to_slice(&mut out[from..]);
 }

@@ -1,7 +1,9 @@
-use Rattle.std.proofs.Common.{◌≡◌, ◌<◌, ℕ}
-use Rattle.mix_fixed.specs.Sound.{Is24, sat24}
-use Rattle.mix_fixed.specs.Kernels.{at}
+use Rattle.std.proofs.Common.{◌*◌}
+use Rattle.mix_fixed.specs.Kernels.{SettledIn}
 use Rattle.mix_fixed.proofs.kernels.settle.Given as goal
 
-abbrev pub invariant-loop-i : goal.invariant-loop-i
-invariant-loop-i l = (j : ℕ) → j < l.i → (at l.out j ≡ sat24 (at l.acc j)) × Is24 (at l.out j)
+abbrev pub invariant-loop-block : goal.invariant-loop-block
+invariant-loop-block l = SettledIn 0 (l.block * 8) l.acc l.fn.out l.out
+
+abbrev pub invariant-loop-j : goal.invariant-loop-j
+invariant-loop-j l = SettledIn 0 l.j l.acc l.fn.out l.out

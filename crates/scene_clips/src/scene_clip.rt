@@ -106,51 +106,6 @@ impl SceneClip {
         self.sample_at(self.converter.point(n), channel)
     }
 
-    /// The sample of a channel at a point.
-    fn sample_at(&self, point: Point, channel: u8) -> i32
-        requires channel { channel < self.now.channels }
-        requires weighted { point.weight < self.now.rate }
-        requires near { point.first < 2 ^ 62 }
-        ensures value { (n : ℕ) → point ≡ point_at (file_rate self.now.bytes) self.now.rate n →
-            result ≡ clip_sample self.now.bytes self.now.rate self.now.channels n channel }
-        ensures range { Is24 result }
-    {
-        let first = self.decoded.frame(point.first);
-        if point.weight == 0 {
-            return self.converter.sample(first, first, 0, channel);
-        }
-        let second = self.decoded.frame(point.first + 1);
-        self.converter.sample(first, second, point.weight, channel)
-    }
-
-    /// The frame at a point, in two channels.
-    fn pair_at(&self, point: Point) -> (i32, i32)
-        requires two { self.now.channels ≡ 2 }
-        requires weighted { point.weight < self.now.rate }
-        requires near { point.first < 2 ^ 62 }
-        ensures left { (n : ℕ) → point ≡ point_at (file_rate self.now.bytes) self.now.rate n →
-            result.0 ≡ clip_sample self.now.bytes self.now.rate self.now.channels n 0 }
-        ensures right { (n : ℕ) → point ≡ point_at (file_rate self.now.bytes) self.now.rate n →
-            result.1 ≡ clip_sample self.now.bytes self.now.rate self.now.channels n 1 }
-        ensures left_range { Is24 result.0 }
-        ensures right_range { Is24 result.1 }
-    {
-        let first = self.decoded.frame(point.first);
-        if point.weight == 0 {
-            return self.converter.pair(first, first, 0);
-        }
-        let second = self.decoded.frame(point.first + 1);
-        self.converter.pair(first, second, point.weight)
-    }
-
-    /// A walk over the places of the frames from frame `from` on.
-    fn walk(&self, from: u64) -> Walker
-        requires { from ≤ clip_length self.now.bytes self.now.rate }
-        ensures { IsWalkOf self.now from result }
-    {
-        self.converter.walk(from)
-    }
-
     /// Writes `count` frames from frame `from` on into `out`: the sample of each channel of the scene,
     /// one frame after the other, as `sample` answers them. It divides only where it begins.
     pub fn run(&self, from: u64, count: usize, out: &mut [i32])
@@ -199,5 +154,50 @@ impl SceneClip {
             let Some(point) = walker.next() else { return };
             out[k] = self.sample_at(point, 0);
         }
+    }
+
+    /// A walk over the places of the frames from frame `from` on.
+    fn walk(&self, from: u64) -> Walker
+        requires { from ≤ clip_length self.now.bytes self.now.rate }
+        ensures { IsWalkOf self.now from result }
+    {
+        self.converter.walk(from)
+    }
+
+    /// The sample of a channel at a point.
+    fn sample_at(&self, point: Point, channel: u8) -> i32
+        requires channel { channel < self.now.channels }
+        requires weighted { point.weight < self.now.rate }
+        requires near { point.first < 2 ^ 62 }
+        ensures value { (n : ℕ) → point ≡ point_at (file_rate self.now.bytes) self.now.rate n →
+            result ≡ clip_sample self.now.bytes self.now.rate self.now.channels n channel }
+        ensures range { Is24 result }
+    {
+        let first = self.decoded.frame(point.first);
+        if point.weight == 0 {
+            return self.converter.sample(first, first, 0, channel);
+        }
+        let second = self.decoded.frame(point.first + 1);
+        self.converter.sample(first, second, point.weight, channel)
+    }
+
+    /// The frame at a point, in two channels.
+    fn pair_at(&self, point: Point) -> (i32, i32)
+        requires two { self.now.channels ≡ 2 }
+        requires weighted { point.weight < self.now.rate }
+        requires near { point.first < 2 ^ 62 }
+        ensures left { (n : ℕ) → point ≡ point_at (file_rate self.now.bytes) self.now.rate n →
+            result.0 ≡ clip_sample self.now.bytes self.now.rate self.now.channels n 0 }
+        ensures right { (n : ℕ) → point ≡ point_at (file_rate self.now.bytes) self.now.rate n →
+            result.1 ≡ clip_sample self.now.bytes self.now.rate self.now.channels n 1 }
+        ensures left_range { Is24 result.0 }
+        ensures right_range { Is24 result.1 }
+    {
+        let first = self.decoded.frame(point.first);
+        if point.weight == 0 {
+            return self.converter.pair(first, first, 0);
+        }
+        let second = self.decoded.frame(point.first + 1);
+        self.converter.pair(first, second, point.weight)
     }
 }

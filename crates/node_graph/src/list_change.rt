@@ -2,10 +2,9 @@
 
 ghost use Rattle.std.specs.Prelude.{◌≡◌, ◌≤◌, length};
 ghost use Rattle.scene_model.specs.Limits as limits;
-ghost use Rattle.scene_model.specs.Wiring.{is_output, target};
 ghost use Rattle.node_graph.specs.ListChanges as spec;
 
-use scene_model::{Bus, Edit};
+use scene_model::{Bus, Edit, target};
 
 /// A change of one list.
 #[derive(Clone, Copy)]
@@ -50,28 +49,9 @@ fn number_of(buses: &[Bus], node: u32, out: u8) -> Option<u32>
     ensures { result ≡ spec.number_of buses.now node out }
 {
     for (number, bus) in buses.iter().enumerate() {
-        if is_output(bus, node, out) {
+        if bus.is_output(node, out) {
             return Some(number as u32);
         }
     }
     None
-}
-
-/// The node to which an output is attached.
-fn target(buses: &[Bus], node: u32, out: u8) -> Option<u32>
-    ensures { result ≡ target buses.now node out }
-{
-    for bus in buses {
-        if is_output(bus, node, out) {
-            return bus.to;
-        }
-    }
-    None
-}
-
-/// Whether a bus is this output of this node.
-fn is_output(bus: &Bus, node: u32, out: u8) -> bool
-    ensures { result ≡ is_output node out bus.now }
-{
-    bus.node == node && bus.out == out
 }

@@ -46,6 +46,13 @@ impl Stage {
         Ok(Stage { plan, inputs })
     }
 
+    /// The plan that the stage means.
+    pub fn plan(&self) -> &Plan
+        ensures { result.now ≡ self.now }
+    {
+        &self.plan
+    }
+
     /// Makes an edit, or refuses it and leaves the stage as it was. It takes no memory. The edit's
     /// node is one of the plan's and its target one of these or the endpoint. The place of a seek is
     /// at most 140737488355327, and a node that is sought had fewer than 131071 seeks so far.

@@ -6,6 +6,7 @@ use Rattle.std.proofs.Math.Nat.{mul-div_cancel}
 use Rattle.std.proofs.lemmas.Int.{ints}
 use Rattle.std.proofs.lemmas.Nat.{div-mul-add}
 use Rattle.clip_decode.specs.Frames.{frames}
+use Rattle.clip_decode.specs.Limits.{most_sound_bytes}
 use Rattle.clip_decode.proofs.Limits.{few_frames}
 use Rattle.rate_fit.specs.Blend.{blended}
 use Rattle.rate_fit.specs.Channels.{in_channels}
@@ -24,7 +25,7 @@ use Rattle.scene_clips.proofs.Silence.{frame_heard}
 pub rate_of : (bytes : List ℕ) (w : Wave) → wave bytes ≡ Ok w → file_rate bytes ≡ w.rate
 rate_of bytes w said = ap rate_said said
 
-pub conversion : (bytes : List ℕ) (w : Wave) (rate : ℕ) → IsWaveOf bytes w → length bytes ≤ 67108864 → 1 ≤ rate → rate ≤ 768000
+pub conversion : (bytes : List ℕ) (w : Wave) (rate : ℕ) → IsWaveOf bytes w → length bytes ≤ most_sound_bytes → 1 ≤ rate → rate ≤ 768000
     → IsConversion (record { input_rate = w.rate; output_rate = rate; frames = w.frames })
 conversion bytes w rate lawful short least most = record {
   some_in = lawful.lies.rate_least;

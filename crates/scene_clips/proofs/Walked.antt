@@ -1,6 +1,8 @@
 -- A walk over the frames of a clip, and what it writes.
-use Rattle.std.proofs.Common.{◌≡◌, ℕ, ◌+◌, ◌*◌, ◌/◌, ◌%◌, ◌<◌, Bool, true, false, ltb, eqb, ℤ, pos, List, Option, Some, None, refl, sym, ◌∙◌, ap, subst, arith}
-use Rattle.std.specs.Prelude.{slice_index_or, nat_lt, if◌then◌else◌}
+use Rattle.std.proofs.Common.{◌≡◌, ℕ, ◌+◌, ◌*◌, ◌/◌, ◌%◌, ◌<◌, Bool, true, false, ltb, eqb, ℤ, pos, List, length, Option, Some, None, refl, sym, ◌∙◌, ap, subst, arith}
+use Rattle.std.specs.Prelude.{slice_index_or, slice_set, nat_lt, if◌then◌else◌}
+use borrow.Author.Count.{below_more}
+use Rattle.std.proofs.lemmas.List.{get_or-set_same, get_or-set_other}
 use Rattle.std.proofs.lemmas.Bool.{lt-ltb, ltb-true, ltb-false, eqb-true, eqb-false}
 use Rattle.rate_fit.specs.Conversion.{length_of}
 use Rattle.rate_fit.specs.Points.{point_at}
@@ -36,22 +38,30 @@ pointed c n w p walk below is =
     ∙ ap (λ r. point_at r w.fit.output_rate w.n) walk.input_is ∙ ap (λ r. point_at (file_rate c.bytes) r w.n) walk.output_is ∙ ap (point_at (file_rate c.bytes) c.rate) walk.place_is
 
 -- one more frame of two channels
-pub pair_more : (f : ℕ → ℕ → ℤ) (from k : ℕ) (old new : List ℤ) → ((j : ℕ) → j < 2 * k → slice_index_or new j (pos 0) ≡ slice_index_or old j (pos 0))
-    → slice_index_or new (2 * k) (pos 0) ≡ f (from + k) 0 → slice_index_or new (2 * k + 1) (pos 0) ≡ f (from + k) 1
-    → ((j : ℕ) → j < 2 * k → slice_index_or old j (pos 0) ≡ f (from + j / 2) (j % 2)) → (j : ℕ) → j < 2 * (k + 1) → slice_index_or new j (pos 0) ≡ f (from + j / 2) (j % 2)
-pair_more f from k old new before left right so_far j below = by_place (ltb j (2 * k)) (eqb j (2 * k)) refl refl
+pub pair_more : (P : ℕ → ℕ → ℤ → Type 0) (from k : ℕ) (old new : List ℤ) → ((j : ℕ) → j < 2 * k → slice_index_or new j (pos 0) ≡ slice_index_or old j (pos 0))
+    → P (from + k) 0 (slice_index_or new (2 * k) (pos 0)) → P (from + k) 1 (slice_index_or new (2 * k + 1) (pos 0))
+    → ((j : ℕ) → j < 2 * k → P (from + j / 2) (j % 2) (slice_index_or old j (pos 0))) → (j : ℕ) → j < 2 * (k + 1) → P (from + j / 2) (j % 2) (slice_index_or new j (pos 0))
+pair_more P from k old new before left right so_far j below = by_place (ltb j (2 * k)) (eqb j (2 * k)) refl refl
   where
-    by_place : (a b : Bool) → ltb j (2 * k) ≡ a → eqb j (2 * k) ≡ b → slice_index_or new j (pos 0) ≡ f (from + j / 2) (j % 2)
-    by_place true b p q = let low = ltb-true j (2 * k) p in before j low ∙ so_far j low
+    by_place : (a b : Bool) → ltb j (2 * k) ≡ a → eqb j (2 * k) ≡ b → P (from + j / 2) (j % 2) (slice_index_or new j (pos 0))
+    by_place true b p q = let low = ltb-true j (2 * k) p in rw (before j low) (so_far j low)
     by_place false true p q =
         let same : 2 * k ≡ j = sym (eqb-true j (2 * k) q) in
         let half : j / 2 ≡ k = omega (arith, same) in
         let rest : j % 2 ≡ 0 = omega (arith, same) in
-        rw (half, rest) (subst (λ i. slice_index_or new i (pos 0) ≡ f (from + k) 0) same left)
+        rw (half, rest) (subst (λ i. P (from + k) 0 (slice_index_or new i (pos 0))) same left)
     by_place false false p q =
         let past = ltb-false j (2 * k) p in
         let other = eqb-false j (2 * k) q in
         let same : 2 * k + 1 ≡ j = omega (arith, past, other, below) in
         let half : j / 2 ≡ k = omega (arith, same) in
         let rest : j % 2 ≡ 1 = omega (arith, same) in
-        rw (half, rest) (subst (λ i. slice_index_or new i (pos 0) ≡ f (from + k) 1) same right)
+        rw (half, rest) (subst (λ i. P (from + k) 1 (slice_index_or new i (pos 0))) same right)
+
+-- one more frame of one channel
+pub single_more : (P : ℕ → ℤ → Type 0) (from k : ℕ) (out : List ℤ) (v : ℤ) → k < length out → P (from + k) v
+    → ((j : ℕ) → j < k → P (from + j) (slice_index_or out j (pos 0))) → (j : ℕ) → j < k + 1 → P (from + j) (slice_index_or (slice_set out k v) j (pos 0))
+single_more P from k out v inside here so_far =
+    below_more (λ j. P (from + j) (slice_index_or (slice_set out k v) j (pos 0))) k
+    (λ j low. rw (get_or-set_other out k j v (pos 0) (omega arith)) (so_far j low))
+    (rw (get_or-set_same out k v (pos 0) inside) here)

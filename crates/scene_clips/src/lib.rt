@@ -2,9 +2,9 @@
 //!
 //! A [`SceneClip`] is a clip that is decoded whole, once. Its samples are read by the numbers of
 //! their frame and their channel, in any order: each takes at most two frames of the file, brings
-//! them to the scene's channels, and blends them where it lies between the two. Where a scene has
-//! two channels, [`SceneClip::pairs`] reads frames in order, left and right together, by a walker
-//! that divides only where it begins.
+//! them to the scene's channels, and blends them where it lies between the two. [`SceneClip::run`]
+//! reads frames in order, all channels of each, by a walker that divides only where it begins.
+//! [`SceneClip::pairs`] does so for a scene of two channels.
 //!
 //! It is made of two parts. [`DecodedPages`] keeps the frames of the file, in its own channels and
 //! at its own rate, and answers each by its number; the bytes of the file are not kept. A

@@ -1,6 +1,7 @@
 //! A clip at a scene's rate and in its channels.
 
 ghost use Rattle.std.specs.Prelude.{◌≡◌, ◌+◌, ◌*◌, ◌/◌, ◌%◌, ◌^◌, ◌<◌, ◌≤◌, ℕ, pos, length, slice_index_or, IfOk};
+ghost use Rattle.clip_decode.specs.Limits.{most_sound_bytes};
 ghost use Rattle.mix_fixed.specs.Sound.{Is24};
 ghost use Rattle.scene_clips.specs.ClipFrames.{clip_length, clip_sample, file_rate};
 ghost use Rattle.scene_clips.specs.Walked.{IsWalkOf};
@@ -58,7 +59,7 @@ impl SceneClip {
         rate: u32,
         channels: u8,
     ) -> Result<SceneClip, OutOfMemory>
-        requires bytes { length clip.now.bytes ≤ 67108864 }
+        requires bytes { length clip.now.bytes ≤ most_sound_bytes }
         requires rate_least { 1 ≤ rate }
         requires rate_most { rate ≤ 768000 }
         requires channels_least { 1 ≤ channels }
@@ -102,7 +103,76 @@ impl SceneClip {
             ≡ clip_sample self.now.bytes self.now.rate self.now.channels n channel }
         ensures range { Is24 result }
     {
-        let point = self.converter.point(n);
+        self.sample_at(self.converter.point(n), channel)
+    }
+
+    /// Writes `count` frames from frame `from` on into `out`: the sample of each channel of the scene,
+    /// one frame after the other, as `sample` answers them. It divides only where it begins.
+    pub fn run(&self, from: u64, count: usize, out: &mut [i32])
+        requires frames { from + count ≤ clip_length self.now.bytes self.now.rate }
+        requires room { length out.old ≡ count * self.now.channels }
+        ensures values { (j : ℕ) → j < count * self.now.channels → slice_index_or out.new j (pos 0)
+            ≡ clip_sample self.now.bytes self.now.rate self.now.channels
+            (from + j / self.now.channels) (j % self.now.channels) }
+        ensures samples { (j : ℕ) → j < count * self.now.channels → Is24 (slice_index_or out.new j (pos 0)) }
+    {
+        if self.channels() == 2 {
+            self.pairs(from, count, out);
+        } else {
+            self.singles(from, count, out);
+        }
+    }
+
+    /// Writes `count` frames from frame `from` on, in two channels, into `out`: left and right of each
+    /// frame, one frame after the other, as `sample` answers them. It divides only where it begins.
+    pub fn pairs(&self, from: u64, count: usize, out: &mut [i32])
+        requires two { self.now.channels ≡ 2 }
+        requires frames { from + count ≤ clip_length self.now.bytes self.now.rate }
+        requires room { length out.old ≡ 2 * count }
+        ensures values { (j : ℕ) → j < 2 * count → slice_index_or out.new j (pos 0)
+            ≡ clip_sample self.now.bytes self.now.rate self.now.channels (from + j / 2) (j % 2) }
+        ensures samples { (j : ℕ) → j < 2 * count → Is24 (slice_index_or out.new j (pos 0)) }
+    {
+        let mut walker = self.walk(from);
+        for k in 0..count {
+            let Some(point) = walker.next() else { return };
+            put_pair(out, k, self.pair_at(point));
+        }
+    }
+
+    /// Writes `count` frames from frame `from` on, in one channel, into `out`.
+    fn singles(&self, from: u64, count: usize, out: &mut [i32])
+        requires one { self.now.channels ≡ 1 }
+        requires frames { from + count ≤ clip_length self.now.bytes self.now.rate }
+        requires room { length out.old ≡ count }
+        ensures values { (j : ℕ) → j < count → slice_index_or out.new j (pos 0)
+            ≡ clip_sample self.now.bytes self.now.rate self.now.channels (from + j) 0 }
+        ensures samples { (j : ℕ) → j < count → Is24 (slice_index_or out.new j (pos 0)) }
+    {
+        let mut walker = self.walk(from);
+        for k in 0..count {
+            let Some(point) = walker.next() else { return };
+            out[k] = self.sample_at(point, 0);
+        }
+    }
+
+    /// A walk over the places of the frames from frame `from` on.
+    fn walk(&self, from: u64) -> Walker
+        requires { from ≤ clip_length self.now.bytes self.now.rate }
+        ensures { IsWalkOf self.now from result }
+    {
+        self.converter.walk(from)
+    }
+
+    /// The sample of a channel at a point.
+    fn sample_at(&self, point: Point, channel: u8) -> i32
+        requires channel { channel < self.now.channels }
+        requires weighted { point.weight < self.now.rate }
+        requires near { point.first < 2 ^ 62 }
+        ensures value { (n : ℕ) → point ≡ point_at (file_rate self.now.bytes) self.now.rate n →
+            result ≡ clip_sample self.now.bytes self.now.rate self.now.channels n channel }
+        ensures range { Is24 result }
+    {
         let first = self.decoded.frame(point.first);
         if point.weight == 0 {
             return self.converter.sample(first, first, 0, channel);
@@ -129,29 +199,5 @@ impl SceneClip {
         }
         let second = self.decoded.frame(point.first + 1);
         self.converter.pair(first, second, point.weight)
-    }
-
-    /// A walk over the places of the frames from frame `from` on.
-    fn walk(&self, from: u64) -> Walker
-        requires { from ≤ clip_length self.now.bytes self.now.rate }
-        ensures { IsWalkOf self.now from result }
-    {
-        self.converter.walk(from)
-    }
-
-    /// Writes `count` frames from frame `from` on, in two channels, into `out`: left and right of each
-    /// frame, one frame after the other, as `sample` answers them. It divides only where it begins.
-    pub fn pairs(&self, from: u64, count: usize, out: &mut [i32])
-        requires two { self.now.channels ≡ 2 }
-        requires frames { from + count ≤ clip_length self.now.bytes self.now.rate }
-        requires room { length out.old ≡ 2 * count }
-        ensures values { (j : ℕ) → j < 2 * count → slice_index_or out.new j (pos 0)
-            ≡ clip_sample self.now.bytes self.now.rate self.now.channels (from + j / 2) (j % 2) }
-    {
-        let mut walker = self.walk(from);
-        for k in 0..count {
-            let Some(point) = walker.next() else { return };
-            put_pair(out, k, self.pair_at(point));
-        }
     }
 }

@@ -17,9 +17,22 @@ pub struct Bus {
 
 impl Bus {
     /// Whether it is this output of this node.
-    pub(crate) fn is_output(&self, node: u32, out: u8) -> bool
+    pub fn is_output(&self, node: u32, out: u8) -> bool
         ensures { result ≡ spec.is_output node out self.now }
     {
         self.node == node && self.out == out
     }
+}
+
+/// The node to which an output is attached. `None` where it is attached nowhere, or where the buses
+/// have no such output.
+pub fn target(buses: &[Bus], node: u32, out: u8) -> Option<u32>
+    ensures { result ≡ spec.target buses.now node out }
+{
+    for bus in buses {
+        if bus.is_output(node, out) {
+            return bus.to;
+        }
+    }
+    None
 }

@@ -36,7 +36,7 @@ mod reply;
 mod resource;
 mod scene;
 
-pub use bus::Bus;
+pub use bus::{Bus, target};
 pub use bus_row::BusRow;
 pub use edit::{Edit, EditRow};
 pub use laws::{

@@ -4,9 +4,8 @@ ghost use Rattle.std.specs.Prelude.{◌≡◌, ◌≤◌, length, IsTrue, All};
 ghost use Rattle.scene_model.specs.IsPlan.{IsBusOf, names_nodes};
 ghost use Rattle.scene_model.specs.Limits as limits;
 ghost use Rattle.scene_model.specs.Plans as spec;
-ghost use Rattle.scene_model.specs.Wiring as wiring;
 
-use crate::bus::Bus;
+use crate::bus::{Bus, target};
 use crate::edit::Edit;
 use crate::node::NodeKind;
 use crate::node_state::NodeState;
@@ -104,16 +103,4 @@ fn is_sound(nodes: &[NodeState], node: u32) -> bool
         Some(state) => matches!(state.kind, NodeKind::Sound { .. }),
         None => false,
     }
-}
-
-/// The node to which an output is attached.
-fn target(buses: &[Bus], node: u32, out: u8) -> Option<u32>
-    ensures { result ≡ wiring.target buses.now node out }
-{
-    for bus in buses {
-        if bus.is_output(node, out) {
-            return bus.to;
-        }
-    }
-    None
 }

@@ -23,6 +23,7 @@ use Rattle.scene_script.specs.declared.placed_edit.PlacedEdit.{PlacedEdit}
 use Rattle.scene_script.specs.declared.place.Place.{Place}
 use Rattle.scene_script.specs.declared.fault.TableKind.TheVariants as kinds
 use Rattle.scene_script.specs.Fields.{place}
+use Rattle.scene_script.specs.Limits as script_limits
 use Rattle.scene_script.specs.Wiring.{placed, bus_edits, placed_row, all_edits}
 
 pub all_at : {X : Type 0} (p : X → Bool) (xs : List X) (i : ℕ) (d : X) → list_all p xs ≡ true → i < length xs → p (get_or xs i d) ≡ true
@@ -95,7 +96,7 @@ abbrev bare : List Node → SceneData
 bare nodes = record { version = 1; rate = 1; channels = 1; width = 16; length = 0; resources = []; nodes = nodes; buses = []; edits = [] }
 
 -- the next edit may be made after those before it
-pub may_make : (nodes : List Node) (plan : PlanData) (edits : List PlacedEdit) (i : ℕ) (d : PlacedEdit) → list_all (may (length nodes)) edits ≡ true → length edits ≤ 4608 → i < length edits → plan ≡ fold after (unwired nodes) (map (λ (e : PlacedEdit). e.edit) (take i edits)) → can_apply plan (get_or edits i d).edit ≡ true
+pub may_make : (nodes : List Node) (plan : PlanData) (edits : List PlacedEdit) (i : ℕ) (d : PlacedEdit) → list_all (may (length nodes)) edits ≡ true → length edits ≤ script_limits.most_made → i < length edits → plan ≡ fold after (unwired nodes) (map (λ (e : PlacedEdit). e.edit) (take i edits)) → can_apply plan (get_or edits i d).edit ≡ true
 may_make nodes plan edits i d are few within is =
     let made = map (λ (e : PlacedEdit). e.edit) (take i edits) in
     let most : length made < limits.most_seeks = omega (arith, length-map (take i edits) (λ (e : PlacedEdit). e.edit), length-take i edits) in
@@ -103,7 +104,7 @@ may_make nodes plan edits i d are few within is =
     (can_apply_later (bare nodes) made most (get_or edits i d).edit (all_at (may (length nodes)) edits i d are within))
 
 -- the number of a row has a next one
-pub number_fits : (edits : List EditRow) (ordered : List NumberedEdit) (i : ℕ) (d : NumberedEdit) → length edits ≤ 4096 → ordered ≡ in_order edits → i < length ordered → Fits w32 ((get_or ordered i d).number + 1)
+pub number_fits : (edits : List EditRow) (ordered : List NumberedEdit) (i : ℕ) (d : NumberedEdit) → length edits ≤ limits.most_edits → ordered ≡ in_order edits → i < length ordered → Fits w32 ((get_or ordered i d).number + 1)
 number_fits edits ordered i d few is within =
     let numbers = subst (λ (es : List NumberedEdit). list_all (λ (e : NumberedEdit). nat_lt e.number (length edits)) es ≡ true) (sym is) (order_numbers_rows edits) in
     let below = ltb-true (get_or ordered i d).number (length edits) (all_at (λ (e : NumberedEdit). nat_lt e.number (length edits)) ordered i d numbers within) in

@@ -13,6 +13,7 @@ use Rattle.scene_script.specs.declared.bus_rows.BusKeys.{BusKeys}
 use Rattle.scene_script.specs.declared.place.Place.{Place}
 use Rattle.scene_script.specs.Checked.{◌>>=◌, each}
 use Rattle.scene_script.specs.Fields.{place, bounds, number_or, output_at, known_keys}
+use Rattle.scene_script.specs.Limits as script_limits
 use Rattle.scene_script.specs.Names.{node_at, target_at, known_name}
 use Rattle.scene_script.specs.TableRows.{rows_at}
 
@@ -31,7 +32,7 @@ bus_keys p nodes ms = do
   node ← node_at p nodes (codes "node") ms
   out ← output_at p ms
   to ← to_at p nodes ms
-  gain ← number_or p (codes "gain") (bounds which.Gain 0 4294967295) limits.unity_gain ms
+  gain ← number_or p (codes "gain") (bounds which.Gain 0 script_limits.most_named_gain) limits.unity_gain ms
   Ok (record { node = node; out = out; to = to; gain = gain })
 
 -- the name of the target is that of a row or of the endpoint, if there is one

@@ -17,6 +17,7 @@ use Rattle.scene_script.specs.declared.edit_keys.EditKeys.{EditKeys}
 use Rattle.scene_script.specs.declared.place.Place.{Place}
 use Rattle.scene_script.specs.Checked.{◌>>=◌, each}
 use Rattle.scene_script.specs.Fields.{place, bounds, number_at, number_or, output_at, text_at, known_keys}
+use Rattle.scene_script.specs.Limits as script_limits
 use Rattle.scene_script.specs.Names.{node_at, target_at, known_name}
 use Rattle.scene_script.specs.TableRows.{rows_at}
 
@@ -83,7 +84,7 @@ to_at p nodes _ ms = Ok None
 
 -- the greatest value of an op, where it has one
 abbrev pub most_value : OpWord → Option ℕ
-most_value op.Gain = Some 4294967295
+most_value op.Gain = Some script_limits.most_named_gain
 most_value op.From = Some limits.most_frames
 most_value op.Until = Some limits.most_frames
 most_value op.Seek = Some limits.last_place

@@ -6,6 +6,7 @@ pub mod Fields
 pub mod FirstFault
 pub mod Headers
 pub mod KeysRead
+pub mod Limits
 pub mod Names
 pub mod NodeRows
 pub mod Reads

@@ -2,6 +2,7 @@ ghost use Rattle.std.specs.Prelude.{◌≡◌, ◌≤◌, ◌<◌, map, IfOk, Is
 ghost use Rattle.std.specs.List.{list_all};
 ghost use Rattle.toml.specs.View.{table_view};
 ghost use Rattle.scene_model.specs.IsScene.{is_bus_row, is_target};
+ghost use Rattle.scene_model.specs.Limits as limits;
 ghost use Rattle.scene_script.specs.BusRows as spec;
 ghost use Rattle.scene_script.specs.Checked.{Gives, GivesAs};
 ghost use Rattle.scene_script.specs.KeysRead.{IsBusKeys, IsTo};
@@ -9,7 +10,7 @@ ghost use Rattle.scene_script.specs.KeysRead.{IsBusKeys, IsTo};
 use crate::bounds::Bounds;
 use crate::fault::{SceneFault, TableKind, Which};
 use crate::fields::{known_keys, member, number_or, output};
-use crate::limits::MAX_BUS_ROWS;
+use crate::limits::{MAX_BUS_ROWS, MAX_NAMED_GAIN};
 use crate::names::{known_name, node_at, target_at};
 use crate::place::Place;
 use crate::script_error::ScriptError;
@@ -22,7 +23,7 @@ use toml::Table;
 const GAIN: Bounds = Bounds {
     which: Which::Gain,
     least: 0,
-    most: 4_294_967_295,
+    most: MAX_NAMED_GAIN,
 };
 
 /// The bus rows of a script.
@@ -32,9 +33,9 @@ pub(crate) fn read_buses(
     script: &Table,
     nodes: &[Node],
 ) -> Result<Rows<BusRow>, ScriptError>
-    requires { length nodes.now ≤ 128 }
+    requires { length nodes.now ≤ limits.most_nodes }
     ensures value { Gives result (spec.buses nodes.now (table_view script.now)) }
-    ensures few { IfOk result (λ buses. length buses ≤ 256) }
+    ensures few { IfOk result (λ buses. length buses ≤ limits.most_bus_rows) }
     ensures are { IfOk result (λ buses. IsTrue (list_all (is_bus_row (length nodes.now)) buses)) }
 {
     let rows = table_rows(
@@ -50,8 +51,8 @@ pub(crate) fn read_buses(
 }
 
 fn bus_rows(alloc: Global, rows: &[&Table], nodes: &[Node]) -> Result<Vec<BusRow>, ScriptError>
-    requires rows { length rows.now ≤ 256 }
-    requires nodes { length nodes.now ≤ 128 }
+    requires rows { length rows.now ≤ limits.most_bus_rows }
+    requires nodes { length nodes.now ≤ limits.most_nodes }
     ensures value { GivesAs (λ v. v.items) result (spec.bus_rows nodes.now (map (λ t. table_view t.now) rows.now)) }
     ensures few { IfOk result (λ v. vec_len v ≤ length rows.now) }
     ensures are { IfOk result (λ v. IsTrue (list_all (is_bus_row (length nodes.now)) v.items)) }
@@ -67,8 +68,8 @@ fn bus_rows(alloc: Global, rows: &[&Table], nodes: &[Node]) -> Result<Vec<BusRow
 /// A row, by those before it.
 #[tactic(auto, unfolding(crate::specs::BusRows::bus_row))]
 fn bus_row(row: &Table, nodes: &[Node], before: &[BusRow]) -> Result<BusRow, SceneFault>
-    requires nodes { length nodes.now ≤ 128 }
-    requires before { length before.now < 256 }
+    requires nodes { length nodes.now ≤ limits.most_nodes }
+    requires before { length before.now < limits.most_bus_rows }
     ensures value { result ≡ spec.bus_row nodes.now before.now (table_view row.now) }
     ensures is_row { IfOk result (λ b. IsTrue (is_bus_row (length nodes.now) b)) }
 {
@@ -99,7 +100,7 @@ pub(crate) enum To {
 impl To {
     #[tactic(auto, unfolding(crate::specs::BusRows::to_at))]
     fn read(row: &Table, place: Place, nodes: &[Node]) -> Result<To, SceneFault>
-        requires { length nodes.now ≤ 128 }
+        requires { length nodes.now ≤ limits.most_nodes }
         ensures value { result ≡ spec.to_at place nodes.now (table_view row.now) }
         ensures is_to { IfOk result (λ to. IsTo (length nodes.now) to) }
     {
@@ -139,7 +140,7 @@ pub(crate) struct BusKeys {
 impl BusKeys {
     #[tactic(auto, unfolding(crate::specs::BusRows::bus_keys))]
     fn read(row: &Table, place: Place, nodes: &[Node]) -> Result<BusKeys, SceneFault>
-        requires { length nodes.now ≤ 128 }
+        requires { length nodes.now ≤ limits.most_nodes }
         ensures value { result ≡ spec.bus_keys place nodes.now (table_view row.now) }
         ensures are { IfOk result (λ b. IsBusKeys (length nodes.now) b) }
     {

@@ -1,6 +1,7 @@
 ghost use Rattle.std.specs.Prelude.{◌≡◌, ◌≤◌, ◌<◌, ◌^◌, IfOk, IfSome, IsTrue, length};
 ghost use Rattle.toml.specs.View.{table_view};
 ghost use Rattle.scene_model.specs.IsScene.{is_edit, is_edit_row};
+ghost use Rattle.scene_model.specs.Limits as limits;
 ghost use Rattle.scene_script.specs.EditRows as spec;
 ghost use Rattle.scene_script.specs.KeysRead.{IsEditKeys};
 
@@ -46,7 +47,7 @@ impl EditKeys {
         nodes: &[Node],
         op: OpWord,
     ) -> Result<EditKeys, SceneFault>
-        requires { length nodes.now ≤ 128 }
+        requires { length nodes.now ≤ limits.most_nodes }
         ensures value { result ≡ spec.edit_keys place nodes.now op (table_view row.now) }
         ensures are { IfOk result (λ k. IsEditKeys (length nodes.now) op k) }
     {
@@ -122,7 +123,7 @@ impl EditKeys {
 
 /// The target that the op has at `to`, if it has one.
 fn to_at(row: &Table, place: Place, nodes: &[Node], op: OpWord) -> Result<Option<u32>, SceneFault>
-    requires { length nodes.now ≤ 128 }
+    requires { length nodes.now ≤ limits.most_nodes }
     ensures value { result ≡ spec.to_at place nodes.now op (table_view row.now) }
     ensures below { IfOk result (λ r. IfSome r (λ n. n ≤ length nodes.now)) }
 {

@@ -2,6 +2,7 @@ ghost use Rattle.std.specs.Prelude.{◌≡◌, ◌≤◌, ◌<◌, map, IfOk, Is
 ghost use Rattle.std.specs.List.{list_all};
 ghost use Rattle.toml.specs.View.{table_view};
 ghost use Rattle.scene_model.specs.IsScene.{is_edit_row};
+ghost use Rattle.scene_model.specs.Limits as limits;
 ghost use Rattle.scene_script.specs.Checked.{Gives, GivesAs};
 ghost use Rattle.scene_script.specs.EditRows as spec;
 
@@ -24,9 +25,9 @@ pub(crate) fn read_edits(
     script: &Table,
     nodes: &[Node],
 ) -> Result<Rows<EditRow>, ScriptError>
-    requires { length nodes.now ≤ 128 }
+    requires { length nodes.now ≤ limits.most_nodes }
     ensures value { Gives result (spec.edits nodes.now (table_view script.now)) }
-    ensures few { IfOk result (λ edits. length edits ≤ 4096) }
+    ensures few { IfOk result (λ edits. length edits ≤ limits.most_edits) }
     ensures are { IfOk result (λ edits. IsTrue (list_all (is_edit_row (length nodes.now)) edits)) }
 {
     let rows = table_rows(
@@ -42,8 +43,8 @@ pub(crate) fn read_edits(
 }
 
 fn edit_rows(alloc: Global, rows: &[&Table], nodes: &[Node]) -> Result<Vec<EditRow>, ScriptError>
-    requires rows { length rows.now ≤ 4096 }
-    requires nodes { length nodes.now ≤ 128 }
+    requires rows { length rows.now ≤ limits.most_edits }
+    requires nodes { length nodes.now ≤ limits.most_nodes }
     ensures value { GivesAs (λ v. v.items) result (spec.edit_rows nodes.now (map (λ t. table_view t.now) rows.now)) }
     ensures few { IfOk result (λ v. vec_len v ≤ length rows.now) }
     ensures are { IfOk result (λ v. IsTrue (list_all (is_edit_row (length nodes.now)) v.items)) }
@@ -59,8 +60,8 @@ fn edit_rows(alloc: Global, rows: &[&Table], nodes: &[Node]) -> Result<Vec<EditR
 /// A row, by those before it.
 #[tactic(auto, unfolding(crate::specs::EditRows::edit_row))]
 fn edit_row(row: &Table, nodes: &[Node], before: &[EditRow]) -> Result<EditRow, SceneFault>
-    requires nodes { length nodes.now ≤ 128 }
-    requires before { length before.now < 4096 }
+    requires nodes { length nodes.now ≤ limits.most_nodes }
+    requires before { length before.now < limits.most_edits }
     ensures value { result ≡ spec.edit_row nodes.now before.now (table_view row.now) }
     ensures is_row { IfOk result (λ e. IsTrue (is_edit_row (length nodes.now) e)) }
 {

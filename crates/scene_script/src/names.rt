@@ -2,6 +2,7 @@ ghost use Rattle.std.specs.Prelude.{◌≡◌, ◌≤◌, ◌<◌, IfOk, IfSome,
 ghost use Rattle.std.specs.List.{position};
 ghost use Rattle.std.specs.Str.{bytes_eq};
 ghost use Rattle.toml.specs.View.{table_view};
+ghost use Rattle.scene_model.specs.Limits as limits;
 ghost use Rattle.scene_script.specs.Names as spec;
 
 use crate::fault::SceneFault;
@@ -21,7 +22,7 @@ pub(crate) fn resource_at(
     resources: &[Resource],
     key: &str,
 ) -> Result<Option<u32>, SceneFault>
-    requires { length resources.now ≤ 64 }
+    requires { length resources.now ≤ limits.most_resources }
     ensures value { result ≡ spec.resource_at place resources.now key.now (table_view row.now) }
     ensures below { IfOk result (λ r. IfSome r (λ n. n < length resources.now)) }
 {
@@ -37,7 +38,7 @@ pub(crate) fn node_at(
     nodes: &[Node],
     key: &str,
 ) -> Result<Option<u32>, SceneFault>
-    requires { length nodes.now ≤ 128 }
+    requires { length nodes.now ≤ limits.most_nodes }
     ensures value { result ≡ spec.node_at place nodes.now key.now (table_view row.now) }
     ensures below { IfOk result (λ r. IfSome r (λ n. n < length nodes.now)) }
 {
@@ -53,7 +54,7 @@ pub(crate) fn target_at(
     nodes: &[Node],
     key: &str,
 ) -> Result<Option<u32>, SceneFault>
-    requires { length nodes.now ≤ 128 }
+    requires { length nodes.now ≤ limits.most_nodes }
     ensures value { result ≡ spec.target_at place nodes.now key.now (table_view row.now) }
     ensures below { IfOk result (λ r. IfSome r (λ n. n ≤ length nodes.now)) }
 {
@@ -69,7 +70,7 @@ pub(crate) fn known_name(place: Place, number: Option<u32>) -> Result<u32, Scene
 }
 
 fn resource_named(resources: &[Resource], name: &str) -> Option<u32>
-    requires { length resources.now ≤ 64 }
+    requires { length resources.now ≤ limits.most_resources }
     ensures value { result ≡ spec.resource_named resources.now name.now }
     ensures below { IfSome result (λ n. n < length resources.now) }
 {
@@ -86,7 +87,7 @@ fn resource_index(resources: &[Resource], name: &str) -> Option<usize>
 }
 
 fn target_named(nodes: &[Node], name: &str) -> Option<u32>
-    requires { length nodes.now ≤ 128 }
+    requires { length nodes.now ≤ limits.most_nodes }
     ensures value { result ≡ spec.target_named nodes.now name.now }
     ensures below { IfSome result (λ n. n ≤ length nodes.now) }
 {
@@ -97,7 +98,7 @@ fn target_named(nodes: &[Node], name: &str) -> Option<u32>
 }
 
 fn node_named(nodes: &[Node], name: &str) -> Option<u32>
-    requires { length nodes.now ≤ 128 }
+    requires { length nodes.now ≤ limits.most_nodes }
     ensures value { result ≡ spec.node_named nodes.now name.now }
     ensures below { IfSome result (λ n. n < length nodes.now) }
 {

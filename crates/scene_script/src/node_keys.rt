@@ -1,6 +1,7 @@
 ghost use Rattle.std.specs.Prelude.{◌≡◌, ◌≤◌, ◌<◌, IfOk, IsTrue, length};
 ghost use Rattle.toml.specs.View.{table_view};
 ghost use Rattle.scene_model.specs.IsScene.{is_kind, is_time};
+ghost use Rattle.scene_model.specs.Limits as limits;
 ghost use Rattle.scene_script.specs.KeysRead.{IsOwn};
 ghost use Rattle.scene_script.specs.NodeRows as spec;
 
@@ -108,7 +109,7 @@ impl OwnKeys {
         resources: &[Resource],
         word: KindWord,
     ) -> Result<OwnKeys, SceneFault>
-        requires { length resources.now ≤ 64 }
+        requires { length resources.now ≤ limits.most_resources }
         ensures value { result ≡ spec.own_keys place resources.now word (table_view row.now) }
         ensures within { IfOk result (λ own. IsOwn (length resources.now) own) }
     {
@@ -121,7 +122,7 @@ impl OwnKeys {
 
     #[tactic(auto, unfolding(crate::specs::NodeRows::sound_keys))]
     fn of_sound(row: &Table, place: Place, resources: &[Resource]) -> Result<OwnKeys, SceneFault>
-        requires { length resources.now ≤ 64 }
+        requires { length resources.now ≤ limits.most_resources }
         ensures value { result ≡ spec.sound_keys place resources.now (table_view row.now) }
         ensures within { IfOk result (λ own. IsOwn (length resources.now) own) }
     {

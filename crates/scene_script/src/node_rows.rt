@@ -4,6 +4,7 @@ ghost use Rattle.std.specs.Str.{bytes_eq};
 ghost use Rattle.toml.specs.View.{table_view};
 ghost use Rattle.scene_model.specs.Buses.{bus_count};
 ghost use Rattle.scene_model.specs.IsScene.{is_node};
+ghost use Rattle.scene_model.specs.Limits as limits;
 ghost use Rattle.scene_script.specs.Checked.{Gives, GivesAs};
 ghost use Rattle.scene_script.specs.NodeRows as spec;
 
@@ -36,10 +37,10 @@ pub(crate) fn read_nodes(
     script: &Table,
     resources: &[Resource],
 ) -> Result<Rows<Node>, ScriptError>
-    requires { length resources.now ≤ 64 }
+    requires { length resources.now ≤ limits.most_resources }
     ensures value { Gives result (spec.nodes resources.now (table_view script.now)) }
-    ensures few { IfOk result (λ nodes. length nodes ≤ 128) }
-    ensures buses { IfOk result (λ nodes. bus_count nodes ≤ 256) }
+    ensures few { IfOk result (λ nodes. length nodes ≤ limits.most_nodes) }
+    ensures buses { IfOk result (λ nodes. bus_count nodes ≤ limits.most_buses) }
     ensures are { IfOk result (λ nodes. IsTrue (list_all (is_node (length resources.now)) nodes)) }
 {
     let rows = table_rows(
@@ -57,16 +58,16 @@ pub(crate) fn read_nodes(
 
 /// Tests that the nodes have no more output buses than allowed.
 fn check_buses(nodes: &[Node]) -> Result<(), SceneFault>
-    requires { length nodes.now ≤ 128 }
+    requires { length nodes.now ≤ limits.most_nodes }
     ensures value { result ≡ spec.few_buses nodes.now }
-    ensures few { IfOk result (λ _. bus_count nodes.now ≤ 256) }
+    ensures few { IfOk result (λ _. bus_count nodes.now ≤ limits.most_buses) }
 {
     BUSES.checked(i64::from(bus_count(nodes)))?;
     Ok(())
 }
 
 fn bus_count(nodes: &[Node]) -> u32
-    requires { length nodes.now ≤ 128 }
+    requires { length nodes.now ≤ limits.most_nodes }
     ensures { result ≡ bus_count nodes.now }
 {
     nodes
@@ -80,8 +81,8 @@ fn node_rows(
     rows: &[&Table],
     resources: &[Resource],
 ) -> Result<Vec<Node>, ScriptError>
-    requires rows { length rows.now ≤ 128 }
-    requires resources { length resources.now ≤ 64 }
+    requires rows { length rows.now ≤ limits.most_nodes }
+    requires resources { length resources.now ≤ limits.most_resources }
     ensures value { GivesAs (λ v. v.items) result (spec.node_rows resources.now (map (λ t. table_view t.now) rows.now)) }
     ensures few { IfOk result (λ v. vec_len v ≤ length rows.now) }
     ensures are { IfOk result (λ v. IsTrue (list_all (is_node (length resources.now)) v.items)) }
@@ -118,8 +119,8 @@ impl<'a> NodeRow<'a> {
         resources: &[Resource],
         before: &[Node],
     ) -> Result<NodeRow<'a>, SceneFault>
-        requires resources { length resources.now ≤ 64 }
-        requires before { length before.now < 128 }
+        requires resources { length resources.now ≤ limits.most_resources }
+        requires before { length before.now < limits.most_nodes }
         ensures value { result ≡ spec.node_row resources.now before.now (table_view row.now) }
         ensures is_node { IfOk result (λ n. IsTrue (is_node (length resources.now) n)) }
     {

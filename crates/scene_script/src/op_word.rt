@@ -4,6 +4,7 @@ ghost use Rattle.scene_script.specs.EditRows as spec;
 
 use crate::fault::SceneFault;
 use crate::fields::{known_keys, text};
+use crate::limits::MAX_NAMED_GAIN;
 use crate::place::Place;
 use scene_model::{MAX_LENGTH, MAX_PLACE};
 use toml::Table;
@@ -38,7 +39,7 @@ impl OpWord {
         ensures { result ≡ spec.most_value self }
     {
         match self {
-            OpWord::Gain => Some(4_294_967_295),
+            OpWord::Gain => Some(MAX_NAMED_GAIN),
             OpWord::From | OpWord::Until => Some(u64::from(MAX_LENGTH)),
             OpWord::Seek => Some(MAX_PLACE),
             OpWord::Loop => Some(1),

@@ -3,9 +3,11 @@ ghost use Rattle.std.specs.List.{list_all};
 ghost use Rattle.scene_model.specs.Buses.{bus_count};
 ghost use Rattle.scene_model.specs.IsPlan.{can_apply};
 ghost use Rattle.scene_model.specs.IsScene.{is_bus_row, is_edit, is_edit_row};
+ghost use Rattle.scene_model.specs.Limits as limits;
 ghost use Rattle.scene_model.specs.Opening.{row_edits, unwired};
 ghost use Rattle.scene_model.specs.Plans.{after};
 ghost use Rattle.scene_script.specs.Checked.{Gives};
+ghost use Rattle.scene_script.specs.Limits as script_limits;
 ghost use Rattle.scene_script.specs.Wiring as spec;
 
 use crate::fault::{SceneFault, TableKind};
@@ -50,10 +52,10 @@ pub(crate) fn check_edits(
     buses: &[BusRow],
     edits: &[EditRow],
 ) -> Result<(), ScriptError>
-    requires nodes { length nodes.now ≤ 128 }
-    requires outputs { bus_count nodes.now ≤ 256 }
-    requires buses { length buses.now ≤ 256 }
-    requires edits { length edits.now ≤ 4096 }
+    requires nodes { length nodes.now ≤ limits.most_nodes }
+    requires outputs { bus_count nodes.now ≤ limits.most_buses }
+    requires buses { length buses.now ≤ limits.most_bus_rows }
+    requires edits { length edits.now ≤ limits.most_edits }
     requires bus_rows { IsTrue (list_all (is_bus_row (length nodes.now)) buses.now) }
     requires edit_rows { IsTrue (list_all (is_edit_row (length nodes.now)) edits.now) }
     ensures { Gives result (spec.wired nodes.now buses.now edits.now) }
@@ -64,9 +66,9 @@ pub(crate) fn check_edits(
 
 /// Makes edits one after the other in a plan of the nodes alone, up to the first that isn't done.
 fn make_all(alloc: Global, nodes: &[Node], edits: &[PlacedEdit]) -> Result<(), ScriptError>
-    requires nodes { length nodes.now ≤ 128 }
-    requires outputs { bus_count nodes.now ≤ 256 }
-    requires few { length edits.now ≤ 4608 }
+    requires nodes { length nodes.now ≤ limits.most_nodes }
+    requires outputs { bus_count nodes.now ≤ limits.most_buses }
+    requires few { length edits.now ≤ script_limits.most_made }
     requires are { IsTrue (list_all (λ e. is_edit (length nodes.now) e.edit) edits.now) }
     ensures { Gives result (spec.all_done (unwired nodes.now) edits.now) }
 {
@@ -83,8 +85,8 @@ fn all_edits(
     buses: &[BusRow],
     edits: &[EditRow],
 ) -> Result<Vec<PlacedEdit>, OutOfMemory>
-    requires buses { length buses.now ≤ 256 }
-    requires edits { length edits.now ≤ 4096 }
+    requires buses { length buses.now ≤ limits.most_bus_rows }
+    requires edits { length edits.now ≤ limits.most_edits }
     ensures { IfOk result (λ v. v.items ≡ spec.all_edits buses.now edits.now) }
 {
     let mut all = Vec::new(alloc);
@@ -103,7 +105,7 @@ fn all_edits(
 
 /// Appends the edits of bus rows.
 fn push_buses(all: &mut Vec<PlacedEdit>, buses: &[BusRow]) -> Result<(), OutOfMemory>
-    requires { length buses.now ≤ 256 }
+    requires { length buses.now ≤ limits.most_bus_rows }
     ensures { IfOk result (λ _. all.new.items ≡ all.old.items ++ spec.bus_edits 1 buses.now) }
 {
     for (number, bus) in buses.iter().enumerate() {

@@ -3,6 +3,7 @@ ghost use Rattle.std.specs.List.{list_all, list_any};
 ghost use Rattle.std.specs.Str.{bytes_eq};
 ghost use Rattle.toml.specs.View.{table_view};
 ghost use Rattle.scene_model.specs.IsScene.{is_resource};
+ghost use Rattle.scene_model.specs.Limits as limits;
 ghost use Rattle.scene_model.specs.Names.{is_file_name};
 ghost use Rattle.scene_script.specs.Checked.{Gives, GivesAs};
 ghost use Rattle.scene_script.specs.Reads.{Reads};
@@ -32,7 +33,7 @@ const FILE_NAME: Bounds = Bounds {
 #[tactic(auto, unfolding(crate::specs::ResourceRows::resources))]
 pub(crate) fn read_resources(alloc: Global, script: &Table) -> Result<Rows<Resource>, ScriptError>
     ensures value { Gives result (spec.resources (table_view script.now)) }
-    ensures few { IfOk result (λ resources. length resources ≤ 64) }
+    ensures few { IfOk result (λ resources. length resources ≤ limits.most_resources) }
     ensures are { IfOk result (λ resources. IsTrue (list_all is_resource resources)) }
 {
     let rows = table_rows(
@@ -48,7 +49,7 @@ pub(crate) fn read_resources(alloc: Global, script: &Table) -> Result<Rows<Resou
 }
 
 fn resource_rows(alloc: Global, rows: &[&Table]) -> Result<Vec<Resource>, ScriptError>
-    requires { length rows.now ≤ 64 }
+    requires { length rows.now ≤ limits.most_resources }
     ensures value { GivesAs (λ v. v.items) result (spec.resource_rows (map (λ t. table_view t.now) rows.now)) }
     ensures few { IfOk result (λ v. vec_len v ≤ length rows.now) }
     ensures are { IfOk result (λ v. IsTrue (list_all is_resource v.items)) }
@@ -84,7 +85,7 @@ impl<'a> ResourceRow<'a> {
     /// Reads a row, by the resources of the rows before it.
     #[tactic(auto, unfolding(crate::specs::ResourceRows::resource_row))]
     fn read(row: &'a Table, before: &[Resource]) -> Result<ResourceRow<'a>, SceneFault>
-        requires { length before.now < 64 }
+        requires { length before.now < limits.most_resources }
         ensures { result ≡ spec.resource_row before.now (table_view row.now) }
     {
         let place = Place {

@@ -1,6 +1,6 @@
 use Rattle.std.proofs.Common.{sym, ◌∙◌}
 use Rattle.scene_model.proofs.Steps.{no_bus, target_more, target_here, target_none}
-use Rattle.node_graph.proofs.list_change.target.Goals as goal
+use Rattle.scene_model.proofs.bus.target.Goals as goal
 
 pub loop-bus-preserved : goal.loop-bus-preserved
 loop-bus-preserved c =

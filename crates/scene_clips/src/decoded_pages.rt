@@ -1,12 +1,12 @@
 //! All pages of a clip, decoded once.
 
-ghost use Rattle.std.specs.Prelude.{◌≡◌, ◌+◌, ◌≤◌, length, All, take, drop, IfOk};
+ghost use Rattle.std.specs.Prelude.{◌≡◌, ◌+◌, ◌<◌, ◌≤◌, length, All, take, drop, IfOk};
 ghost use Rattle.clip_decode.specs.Frames.{frames};
 ghost use Rattle.clip_decode.specs.Pages.{page_count};
 ghost use Rattle.mix_fixed.specs.Sound.{Is24};
 ghost use Rattle.wave_read.specs.Wave.{wave};
 ghost use Rattle.wave_read.specs.Laws.{IsWaveOf};
-ghost use Rattle.scene_clips.specs.DecodedPages.{frame_or_silence, pages_data};
+ghost use Rattle.scene_clips.specs.DecodedPages.{frame_or_silence, page_data, pages_data};
 
 use crate::file_content::FileContent;
 use clip_decode::{Clip, Cursor, FRAMES_PER_PAGE, Page, fill, pages};
@@ -91,6 +91,15 @@ impl DecodedPages {
         ensures lawful { IsWaveOf self.now.bytes self.now.wave }
     {
         &self.wave
+    }
+
+    /// The page of number `k`, counted from 0, below the number of the file's pages: the frames of
+    /// the file from frame 8192 * k on, 8192 of them or as many as are left, in the file's channels.
+    pub fn page(&self, k: u64) -> &Page
+        requires { k < page_count self.now.wave.frames }
+        ensures { result.now ≡ page_data self.now.bytes self.now.wave k }
+    {
+        &self.pages[k as usize]
     }
 
     /// The frame of number `n`, counted from 0: one sample of 24 bits a channel of the file, which

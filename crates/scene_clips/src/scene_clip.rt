@@ -67,9 +67,22 @@ impl SceneClip {
         ensures { IfOk result (λ decoded. decoded
             ≡ record { bytes = clip.now.bytes; rate = rate; channels = channels }) }
     {
-        let converter = Converter::new(clip.wave(), rate, channels);
         let decoded = DecodedPages::decode(alloc, clip)?;
-        Ok(SceneClip { decoded, converter })
+        Ok(SceneClip::of(decoded, rate, channels))
+    }
+
+    /// The clip of the pages of a file of at most 67108864 bytes, for a scene of `rate` frames a
+    /// second, 1 to 768000, and `channels` channels, 1 or 2. It takes no memory.
+    pub fn of(decoded: DecodedPages, rate: u32, channels: u8) -> SceneClip
+        requires bytes { length decoded.bytes ≤ 67108864 }
+        requires rate_least { 1 ≤ rate }
+        requires rate_most { rate ≤ 768000 }
+        requires channels_least { 1 ≤ channels }
+        requires channels_most { channels ≤ 2 }
+        ensures { result ≡ record { bytes = decoded.bytes; rate = rate; channels = channels } }
+    {
+        let converter = Converter::new(decoded.wave(), rate, channels);
+        SceneClip { decoded, converter }
     }
 
     /// The scene's channels, 1 or 2.

@@ -142,6 +142,52 @@ fn pairs_are_the_samples(rt: HostRuntime) -> Result<(), Fail> {
     Ok(())
 }
 
+/// The frames from `from` to the end.
+fn run(
+    rt: &impl Abort,
+    alloc: Global,
+    heard: &SceneClip,
+    from: u64,
+) -> Result<Vec<i32>, OutOfMemory> {
+    assert!(rt; from <= heard.len());
+    let count = (heard.len() - from) as usize;
+    let places = count
+        .checked_mul(usize::from(heard.channels()))
+        .expect(rt, "few places");
+    let mut out = vec![in alloc; 0i32; places]?;
+    heard.run(from, count, &mut out);
+    Ok(out)
+}
+
+/// Frames in order are those that are read one by one, in one channel and in two.
+#[test]
+fn runs_are_the_samples(rt: HostRuntime) -> Result<(), Fail> {
+    let alloc = rt.alloc();
+    for (channels, rate, scene_channels) in [(2, 44_100, 1), (1, 96_000, 1), (3, 8_000, 2)] {
+        let clip = clip(
+            alloc,
+            channels,
+            rate,
+            &[9, -8, 700, 6, -5, 4, 3, -2, 1, 0, -11, 12],
+        )?;
+        let heard = heard(&rt, alloc, &clip, 48_000, scene_channels)?;
+        for from in [0, 1] {
+            let mut want = Vec::new(alloc);
+            for n in from..heard.len() {
+                for channel in 0..scene_channels {
+                    want.push(sample(&rt, &heard, n, channel))?;
+                }
+            }
+            assert_eq!(rt;
+                run(&rt, alloc, &heard, from)?.as_slice(),
+                want.as_slice(),
+                "from {from}"
+            );
+        }
+    }
+    Ok(())
+}
+
 /// Two seconds at 44100 Hz make 96000 frames at 48000 Hz. Frame 1 is 44100 parts of 48000 on the way
 /// from frame 0 to frame 1, frame 2 is 40200 on the way to frame 2, and the last one 3900 on the way
 /// to the 0 after the end.

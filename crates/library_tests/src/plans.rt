@@ -7,7 +7,7 @@ ghost use Rattle.scene_model.specs.IsScene.{is_kind, is_node, is_bus_row, is_edi
 use plain_data::{OutOfMemory, Rows, Text};
 use scene_model::{
     Bus, BusRow, Edit, EditRow, LAST_EDITOR, MAX_LENGTH, Node, NodeKind, NodeState, Plan, Reply,
-    Resource, Scene, UNITY_GAIN, apply,
+    Resource, Scene, UNITY_GAIN, apply, target,
 };
 use std::alloc::Global;
 use std::test::Fail;
@@ -292,6 +292,11 @@ fn bus_rows_wire_the_opening_plan(rt: HostRuntime) -> Result<(), Fail> {
     let plan = opening(rt.alloc(), &[NodeKind::Group, NodeKind::Group], &rows)?;
     let buses = [bus(0, 0, Some(1), 7), bus(1, 0, None, 8)];
     assert_eq!(rt; plan.buses(), buses.as_slice());
+    assert_eq!(rt; target(plan.buses(), 0, 0), Some(1));
+    assert_eq!(rt; target(plan.buses(), 1, 0), None);
+    assert!(rt; buses[1].is_output(1, 0));
+    assert!(rt; !buses[1].is_output(0, 0));
+    assert!(rt; !buses[1].is_output(1, 1));
     Ok(())
 }
 

@@ -1,5 +1,5 @@
 use Rattle.std.proofs.Common.{◌≡◌, ◌+◌, false, length, nat_lt, refl, ◌∙◌, ap, Err, arith}
-use Rattle.snd_tools.proofs.fetching.clip_of.Goals as goal
+use Rattle.resource_mgr.proofs.fetching.clip_of.Goals as goal
 
 pub returns-in-Err-Fault-clause-value : goal.returns-in-Err-Fault-clause-value
 returns-in-Err-Fault-clause-value c =

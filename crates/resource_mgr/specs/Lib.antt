@@ -1,0 +1,4 @@
+pub mod Answers
+pub mod FaultText
+pub mod Fetching
+pub mod TapeData

@@ -43,9 +43,9 @@ pub fn make_due(
     next
 }
 
-/// Sets the cursor of a node that is sought to the place, or to the clip's end where that comes
-/// first.
-fn seek(edit: &Edit, frames: &[u64], cursors: &mut [u64])
+/// Sets the cursor of a node that is sought to the place, or to the clip's end where that comes first;
+/// no other edit changes it. `frames` has the length of each node's clip, 0 for a group or a splitter.
+pub fn seek(edit: &Edit, frames: &[u64], cursors: &mut [u64])
     requires node { SeeksBelow (length cursors.old) edit.now }
     requires frames { length frames.now ≡ length cursors.old }
     ensures { (n : ℕ) → slice_index cursors.new n

@@ -11,7 +11,7 @@
 //!
 //! [`plain_mix`] writes that file to a sink, and answers a [`Summary`] of it or a [`MixFault`]. The
 //! parts of a frame are public, for other renderers of the same mix: the edits that are due
-//! ([`make_due`]), depths of nodes and a topological order of the buses ([`depths`],
+//! ([`make_due`], [`seek`]), depths of nodes and a topological order of the buses ([`depths`],
 //! [`topological_order`]), what is active and what is pulled ([`is_active`], [`mark_pulled`]), cursors
 //! ([`next_cursor`], [`advance_cursors`]), and what stands before and behind the frames in the file
 //! ([`scene_header`], [`write_padding`]).
@@ -38,7 +38,7 @@ mod summary;
 mod wav_file;
 
 pub use cursors::{advance_cursors, next_cursor};
-pub use edits::make_due;
+pub use edits::{make_due, seek};
 pub use laws::{
     a_sound_plays_its_clip, edits_past_the_end_change_nothing, inputs_hang_on_what_feeds_them,
     inputs_have_one_solution, pulls_have_one_solution, the_order_of_buses_makes_no_difference,

@@ -1,5 +1,5 @@
 -- The clips that are fetched, by the files that are named, and the fault of the first resources.
-use Rattle.std.proofs.Common.{◌≡◌, ◌∙◌, ℕ, zero, suc, ◌+◌, ◌<◌, ◌≤◌, nat_lt, if◌then◌else◌, Bool, true, false, List, [], ◌∷◌, ◌++◌, length, get_or, Option, Some, None, Result, Ok, Err, refl, ap, subst, sym, arith}
+use Rattle.std.proofs.Common.{◌≡◌, ◌∙◌, ℕ, zero, suc, ◌+◌, ◌<◌, ◌≤◌, nat_lt, if◌then◌else◌, Bool, true, false, List, [], ◌∷◌, ◌++◌, length, get_or, Option, Result, Ok, Err, refl, ap, subst, arith}
 use Rattle.std.specs.FinMap.{get}
 use Rattle.clip_decode.specs.Limits.{most_sound_bytes}
 use Rattle.wave_read.specs.Wave.{wave}
@@ -14,7 +14,7 @@ use Rattle.resource_mgr.specs.Fetching.{◌>>=◌, clip_fetched, clip_of, clips_
 use Rattle.resource_mgr.specs.declared.lib_fault.LibFault.{LibFault}
 use Rattle.resource_mgr.specs.declared.lib_fault.LibFault.TheVariants.{DepotFault, Absent, TooLong, File, OutOfMemory}
 use Rattle.snd_status.specs.declared.status.Status.TheVariants as status
-use Rattle.snd_tools.specs.Laws.{AgreeOn, AgreeOnSounds}
+use Rattle.snd_tools.specs.Laws.{AgreeOnSounds}
 use Rattle.snd_tools.specs.Reading.{file_name, status_of}
 
 bind-same : {A B : Type 0} (x : Result A LibFault) (f g : A → Result B LibFault) → ((y : A) → x ≡ Ok y → f y ≡ g y) → (x >>= f) ≡ (x >>= g)

@@ -1,12 +1,12 @@
 //! The pages of a clip on a tape, and the texts of what isn't given.
 
 use crate::sound_files::{Format, wave_file};
-use clip_decode::{Clip, Page};
+use clip_decode::Clip;
 use exec_reel::NotYet;
-use plain_data::OutOfMemory;
 use resource_mgr::{LibFault, Tape};
 use scene_clips::SceneClip;
 use std::alloc::Global;
+use std::process::Abort;
 use std::test::Fail;
 use wave_read::WaveFault;
 
@@ -27,9 +27,10 @@ fn long_clip(alloc: Global) -> Result<Clip, Fail> {
     Ok(clip.ok().ok_or("a clip")?)
 }
 
-/// The number of samples of a page and its first one.
-fn told(page: Result<&Page, NotYet>) -> Option<(usize, i32)> {
-    let samples = page.ok()?.samples();
+/// The number of samples of a page of a tape, and its first one.
+fn told(rt: &impl Abort, tape: &mut Tape, k: u32) -> Option<(usize, i32)> {
+    assert!(rt; k < tape.pages());
+    let samples = tape.page(k).ok()?.samples();
     Some((samples.len(), *samples.first()?))
 }
 
@@ -37,16 +38,29 @@ fn told(page: Result<&Page, NotYet>) -> Option<(usize, i32)> {
 fn a_whole_tape_shows_all_pages(rt: HostRuntime) -> Result<(), Fail> {
     let alloc = rt.alloc();
     let clip = long_clip(alloc)?;
+    assert!(rt; clip.bytes().len() <= 67_108_864);
     let mut tape = Tape::whole(alloc, &clip)?;
     assert_eq!(rt; tape.pages(), 3);
     assert_eq!(rt; tape.wave().frames, 20_000);
-    assert_eq!(rt; told(tape.page(0)), Some((8_192, 0)));
-    assert_eq!(rt; told(tape.page(1)), Some((8_192, 92 * 65_536)));
-    assert_eq!(rt; told(tape.page(2)), Some((3_616, 84 * 65_536)));
+    assert_eq!(rt; told(&rt, &mut tape, 0), Some((8_192, 0)));
+    assert_eq!(rt; told(&rt, &mut tape, 1), Some((8_192, 92 * 65_536)));
+    assert_eq!(rt; told(&rt, &mut tape, 2), Some((3_616, 84 * 65_536)));
+    Ok(())
+}
+
+#[test]
+fn a_tape_gives_its_pages_to_a_clip_of_a_scene(rt: HostRuntime) -> Result<(), Fail> {
+    let alloc = rt.alloc();
+    let clip = long_clip(alloc)?;
+    assert!(rt; clip.bytes().len() <= 67_108_864);
+    let tape = Tape::whole(alloc, &clip)?;
+    assert!(rt; 2 < tape.pages());
     let pages = tape.into_decoded();
     assert_eq!(rt; pages.page(2).samples().len(), 3_616);
     assert_eq!(rt; pages.frame(19_999)[0], 99 * 65_536);
     let scene_clip = SceneClip::of(pages, 8_000, 1);
+    assert!(rt; 19_999 < scene_clip.len());
+    assert!(rt; 0 < scene_clip.channels());
     assert_eq!(rt; scene_clip.len(), 20_000);
     assert_eq!(rt; scene_clip.sample(19_999, 0), 99 * 65_536);
     Ok(())

@@ -27,6 +27,8 @@ mod scene_values;
 #[cfg(test)]
 mod sound_files;
 #[cfg(test)]
+mod tapes;
+#[cfg(test)]
 mod wave_files;
 #[cfg(test)]
 mod wave_writing;

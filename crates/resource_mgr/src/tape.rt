@@ -66,8 +66,8 @@ impl Tape {
     ///
     /// # Errors
     ///
-    /// [`NotYet`] exactly where the page isn't shown: where only the pages of numbers up to `k` are,
-    /// or fewer.
+    /// [`NotYet`] exactly where the page isn't shown yet, with the number of pages that are. The tape is
+    /// unchanged on each answer.
     pub fn page(&mut self, k: u32) -> Result<&Page, NotYet>
         requires { k < page_count self.old.wave.frames }
         ensures given { IfOk result (λ page. page.now ≡ page_data self.old.bytes self.old.wave k) }

@@ -1,4 +1,5 @@
 pub mod Lines
+pub mod NamedClips
 pub mod NamedFiles
 pub mod Numbers
 pub mod Outcomes

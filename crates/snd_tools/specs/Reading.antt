@@ -1,26 +1,25 @@
 -- What is read of a scene and of its sound files, and which refusal comes first.
-use Rattle.std.specs.Prelude.{◌≡◌, ℕ, ◌+◌, nat_lt, Bool, true, false, List, [], ◌∷◌, length, Option, Some, None, Result, Ok, Err, if◌then◌else◌}
-use Rattle.std.specs.FinMap.{get}
-use Rattle.clip_decode.specs.Limits.{most_sound_bytes}
+use Rattle.std.specs.Prelude.{◌≡◌, ℕ, zero, suc, Bool, true, false, List, [], ◌∷◌, Option, Result, Ok, Err}
 use Rattle.wave_read.specs.Wave.{wave}
 use Rattle.wave_read.specs.declared.wave.Wave.{Wave}
 use Rattle.wave_read.specs.declared.wave_fault.WaveFault.{WaveFault}
 use Rattle.scene_model.specs.declared.resource.Resource.{Resource}
 use Rattle.scene_model.specs.SceneData.{SceneData}
 use Rattle.snd_io.specs.Files.{Files}
+use Rattle.snd_io.specs.declared.answers.FetchFault.{FetchFault}
+use Rattle.snd_io.specs.declared.answers.FetchFault.TheVariants as files
+use Rattle.resource_mgr.specs.Fetching.{file_fetched, clips_fetched}
+use Rattle.resource_mgr.specs.declared.lib_fault.LibFault.{LibFault}
+use Rattle.resource_mgr.specs.declared.lib_fault.LibFault.TheVariants as sounds
 use Rattle.snd_status.specs.Statuses.{Ending, Success, NoMemory, Refusal, DepotFailure, TextFailure, ending}
 use Rattle.snd_status.specs.declared.status.Status.{Status}
-use Rattle.snd_status.specs.declared.status.Status.TheVariants.{OutOfMemory, Usage, Absent, TooLong, Script, File}
+use Rattle.snd_status.specs.declared.status.Status.TheVariants.{OutOfMemory, Usage, DepotFault, Absent, TooLong, Script, File}
 use Rattle.scene_script.specs.declared.fault.SceneFault.{SceneFault}
 use Rattle.scene_script.specs.Script.{scene}
 
 -- 4 MiB
 abbrev pub most_script_bytes : ℕ
 most_script_bytes = 4194304
-
--- 128 MiB, of all sound files of a scene
-abbrev pub most_total_bytes : ℕ
-most_total_bytes = 134217728
 
 -- the first refusal is what it comes to
 infixl 10 ◌>>=◌
@@ -33,10 +32,20 @@ abbrev pub scene_or_fault : Result SceneData SceneFault → Result SceneData Sta
 scene_or_fault (Ok s) = Ok s
 scene_or_fault (Err fault) = Err (Script fault)
 
+-- how a command ends whose file of that name, of at most so many bytes, isn't given
+abbrev pub file_status : List ℕ → ℕ → FetchFault → Status
+file_status name limit files.Absent = Absent name
+file_status name limit files.TooLong = TooLong name limit
+file_status name limit files.Failed = DepotFault
+file_status name limit files.OutOfMemory = OutOfMemory
+
+abbrev pub given_or_status : List ℕ → ℕ → Result (List ℕ) FetchFault → Result (List ℕ) Status
+given_or_status name limit (Ok bytes) = Ok bytes
+given_or_status name limit (Err fault) = Err (file_status name limit fault)
+
 -- a file of that name, which has these bytes if it is there: absent, or longer than the limit, or its bytes
 abbrev pub file_read : ℕ → List ℕ → Option (List ℕ) → Result (List ℕ) Status
-file_read limit name None = Err (Absent name)
-file_read limit name (Some bytes) = if nat_lt limit (length bytes) then Err (TooLong name limit) else Ok bytes
+file_read limit name file = given_or_status name limit (file_fetched limit file)
 
 -- SCENE
 abbrev pub script_read : List ℕ → Result SceneData Status
@@ -44,11 +53,6 @@ script_read text = scene_or_fault (scene text)
 
 abbrev pub scene_read : List ℕ → Option (List ℕ) → Result SceneData Status
 scene_read name file = file_read most_script_bytes name file >>= script_read
-
--- with the file that follows them, the sound files have so many bytes in all
-abbrev pub within_sum : ℕ → List ℕ → List ℕ → Result (List ℕ) Status
-within_sum total name bytes =
-    if nat_lt most_total_bytes (total + length bytes) then Err (TooLong name most_total_bytes) else Ok bytes
 
 -- the sound of a resource of that number
 abbrev pub file_or_fault : {A : Type 0} → ℕ → Result A WaveFault → Result A Status
@@ -59,28 +63,27 @@ file_or_fault number (Err fault) = Err (File number fault)
 abbrev pub surveyed : ℕ → List ℕ → Result Wave Status
 surveyed number bytes = file_or_fault number (wave bytes)
 
--- The sound file of a resource, after files of so many bytes in all: its absence, its own length, the sum of the files, the
--- fault of the file.
-abbrev pub sound_of : ℕ → ℕ → List ℕ → List ℕ → Result (List ℕ) Status
-sound_of number total name file = do
-  bytes ← within_sum total name file
-  w ← surveyed number bytes
-  Ok bytes
+-- the name of the sound file of the resource of a number
+abbrev pub file_name : List Resource → ℕ → List ℕ
+file_name [] number = []
+file_name (resource ∷ more) zero = resource.file
+file_name (resource ∷ more) (suc number) = file_name more number
 
-abbrev pub sound_read : ℕ → ℕ → List ℕ → Option (List ℕ) → Result (List ℕ) Status
-sound_read number total name file = file_read most_sound_bytes name file >>= sound_of number total name
+-- how a command ends whose sound files aren't fetched
+abbrev pub status_of : List Resource → LibFault → Status
+status_of resources sounds.DepotFault = DepotFault
+status_of resources (sounds.Absent number) = Absent (file_name resources number)
+status_of resources (sounds.TooLong number limit) = TooLong (file_name resources number) limit
+status_of resources (sounds.File number fault) = File number fault
+status_of resources sounds.OutOfMemory = OutOfMemory
 
--- The sound files of resources in their order, where the first has that number and the files before it have so many bytes
--- in all. A file that two resources name counts twice.
-abbrev pub sounds_from : Files → ℕ → ℕ → List Resource → Result (List (List ℕ)) Status
-sounds_from files number total [] = Ok []
-sounds_from files number total (resource ∷ more) = do
-  bytes ← sound_read number total resource.file (get files resource.file)
-  sounds ← sounds_from files (number + 1) (total + length bytes) more
-  Ok (bytes ∷ sounds)
+abbrev pub fetched_or_status : {A : Type 0} → List Resource → Result A LibFault → Result A Status
+fetched_or_status resources (Ok x) = Ok x
+fetched_or_status resources (Err fault) = Err (status_of resources fault)
 
+-- the sound files of resources in their order
 abbrev pub sounds_read : Files → List Resource → Result (List (List ℕ)) Status
-sounds_read files resources = sounds_from files 0 0 resources
+sounds_read files resources = fetched_or_status resources (clips_fetched files resources)
 
 -- a part of the work ended as is said, or the depot failed, or there was no memory
 abbrev pub EndsAs : {A : Type 0} → Ending → Status → Result A Status → Type 0
@@ -141,3 +144,11 @@ abbrev pub IsTooLong : Status → List ℕ → ℕ → Type 0
 IsTooLong (TooLong found passed) name limit = (found ≡ name) × (passed ≡ limit)
 IsTooLong OutOfMemory name limit = Unit {0}
 IsTooLong _ name limit = ⊥
+
+-- the status of the fault of sound files, or want of memory for the name in it
+abbrev pub IsStatusOf : List Resource → LibFault → Status → Type 0
+IsStatusOf resources sounds.DepotFault status = status ≡ DepotFault
+IsStatusOf resources (sounds.Absent number) status = IsAbsent status (file_name resources number)
+IsStatusOf resources (sounds.TooLong number limit) status = IsTooLong status (file_name resources number) limit
+IsStatusOf resources (sounds.File number fault) status = status ≡ File number fault
+IsStatusOf resources sounds.OutOfMemory status = status ≡ OutOfMemory

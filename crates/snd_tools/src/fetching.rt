@@ -1,25 +1,24 @@
-ghost use Rattle.std.specs.Prelude.{◌≡◌, true, ◌+◌, ◌≤◌, false, None, Some, IfSome, IfOk, map, length, All};
+ghost use Rattle.std.specs.Prelude.{◌≡◌, true, ◌<◌, ◌≤◌, false, None, IfSome, IfOk, map, length, All};
 ghost use Rattle.std.specs.FinMap.{get};
 ghost use Rattle.clip_decode.specs.Limits.{most_sound_bytes};
 ghost use Rattle.scene_model.specs.Limits as limits;
 ghost use Rattle.snd_io.specs.Faults.{CountsFaults};
 ghost use Rattle.snd_tools.specs.Reading as spec;
-ghost use Rattle.snd_tools.specs.Reading.{Ends, GivesBy, stopped_by_depot, can_stop};
+ghost use Rattle.snd_tools.specs.Reading.{GivesBy, stopped_by_depot, can_stop};
+ghost use Rattle.resource_mgr.specs.Answers.{NamesOneOf};
 
-use clip_decode::{Clip, ClipError, MAX_SOUND_BYTES};
+use clip_decode::Clip;
 use plain_data::Text;
+use resource_mgr::{LibFault, fetch_clips, fetch_file as fetch};
 use scene_model::{Resource, Scene};
 use scene_script::read_scene as read_script;
-use snd_io::{Depot, Fetch};
+use snd_io::{Depot, FetchFault};
 use snd_status::Status;
 use std::alloc::Global;
 use std::marker::Model;
 
 /// The most bytes of a script.
 const MAX_SCRIPT_BYTES: u64 = 4_194_304;
-
-/// The most bytes of all sound files of a scene.
-const MAX_TOTAL_BYTES: u64 = 134_217_728;
 
 /// Fetches a file of at most `limit` bytes, and no file changes.
 pub(crate) fn fetch_file<D: Depot>(
@@ -36,13 +35,12 @@ pub(crate) fn fetch_file<D: Depot>(
     ensures cause { CountsFaults (D.faults depot.old) (D.faults depot.new) (stopped_by_depot result) }
     ensures stop { can_stop result ≡ true }
 {
-    let mut bytes = Vec::new(alloc);
-    match depot.fetch(alloc, name, limit, &mut bytes) {
-        Fetch::Fetched => Ok(bytes),
-        Fetch::Absent => Err(absent(alloc, name)),
-        Fetch::TooLong => Err(too_long(alloc, name, limit)),
-        Fetch::Failed => Err(Status::DepotFault),
-        Fetch::OutOfMemory => Err(Status::OutOfMemory),
+    match fetch(alloc, depot, name, limit) {
+        Ok(bytes) => Ok(bytes),
+        Err(FetchFault::Absent) => Err(absent(alloc, name)),
+        Err(FetchFault::TooLong) => Err(too_long(alloc, name, limit)),
+        Err(FetchFault::Failed) => Err(Status::DepotFault),
+        Err(FetchFault::OutOfMemory) => Err(Status::OutOfMemory),
     }
 }
 
@@ -80,7 +78,7 @@ pub(crate) fn read_sounds<D: Depot>(
 ) -> Result<Vec<Clip>, Status>
     requires closed { D.writing depot.old ≡ None }
     requires few { length resources.now ≤ limits.most_resources }
-    ensures told { IfSome (D.files depot.old) (λ files. GivesBy (λ clips. map (λ clip. clip.bytes) clips.items) result (spec.sounds_from files 0 0 resources.now)) }
+    ensures told { IfSome (D.files depot.old) (λ files. GivesBy (λ clips. map (λ clip. clip.bytes) clips.items) result (spec.sounds_read files resources.now)) }
     ensures count { IfOk result (λ clips. length clips.items ≡ length resources.now) }
     ensures sizes { IfOk result (λ clips. All (λ clip. length clip.bytes ≤ most_sound_bytes) clips.items) }
     ensures files { D.files depot.new ≡ D.files depot.old }
@@ -88,67 +86,34 @@ pub(crate) fn read_sounds<D: Depot>(
     ensures cause { CountsFaults (D.faults depot.old) (D.faults depot.new) (stopped_by_depot result) }
     ensures stop { can_stop result ≡ true }
 {
-    let mut clips = Vec::new(alloc);
-    let mut total = 0;
-    for (number, resource) in resources.iter().enumerate() {
-        let file = resource.file.as_str();
-        let clip = read_sound(alloc, depot, number as u32, total, file)?;
-        total += clip.bytes().len() as u64;
-        clips.push(clip)?;
+    match fetch_clips(alloc, depot, resources) {
+        Ok(clips) => Ok(clips),
+        Err(fault) => Err(status_of(alloc, resources, fault)),
     }
-    Ok(clips)
 }
 
-/// Reads the sound file of the resource of that number, where the files before it have `total` bytes
-/// in all.
-fn read_sound<D: Depot>(
-    alloc: Global,
-    depot: &mut D,
-    number: u32,
-    total: u64,
-    name: &str,
-) -> Result<Clip, Status>
-    requires closed { D.writing depot.old ≡ None }
-    requires total { total ≤ spec.most_total_bytes }
-    ensures told { IfSome (D.files depot.old) (λ files. GivesBy (λ clip. clip.bytes) result (spec.sound_read number total name.now (get files name.now))) }
-    ensures size { IfOk result (λ clip. length clip.bytes ≤ most_sound_bytes) }
-    ensures sum { IfOk result (λ clip. total + length clip.bytes ≤ spec.most_total_bytes) }
-    ensures files { D.files depot.new ≡ D.files depot.old }
-    ensures closed { D.writing depot.new ≡ None }
-    ensures cause { CountsFaults (D.faults depot.old) (D.faults depot.new) (stopped_by_depot result) }
-    ensures stop { can_stop result ≡ true }
+/// The status of a fault of the sound files of resources.
+fn status_of(alloc: Global, resources: &[Resource], fault: LibFault) -> Status
+    requires { NamesOneOf (length resources.now) fault }
+    ensures { spec.IsStatusOf resources.now fault result }
 {
-    let bytes = fetch_file(alloc, depot, name, MAX_SOUND_BYTES)?;
-    clip_of(alloc, number, total, name, bytes)
+    match fault {
+        LibFault::DepotFault => Status::DepotFault,
+        LibFault::Absent { resource } => absent(alloc, file_name(resources, resource)),
+        LibFault::TooLong { resource, limit } => {
+            too_long(alloc, file_name(resources, resource), limit)
+        }
+        LibFault::File { resource, fault } => Status::File { resource, fault },
+        LibFault::OutOfMemory => Status::OutOfMemory,
+    }
 }
 
-/// The clip of a sound file, or its refusal.
-fn clip_of(
-    alloc: Global,
-    number: u32,
-    total: u64,
-    name: &str,
-    bytes: Vec<u8>,
-) -> Result<Clip, Status>
-    requires total { total ≤ spec.most_total_bytes }
-    requires length { length bytes.items ≤ most_sound_bytes }
-    ensures value { GivesBy (λ clip. clip.bytes) result (spec.sound_of number total name.now bytes.items) }
-    ensures size { IfOk result (λ clip. length clip.bytes ≤ most_sound_bytes) }
-    ensures sum { IfOk result (λ clip. total + length clip.bytes ≤ spec.most_total_bytes) }
-    ensures no_fault { stopped_by_depot result ≡ false }
-    ensures stop { can_stop result ≡ true }
+/// The name of the sound file of the resource of that number.
+fn file_name(resources: &[Resource], number: u32) -> &str
+    requires { number < length resources.now }
+    ensures { result.now ≡ spec.file_name resources.now number }
 {
-    if total + bytes.len() as u64 > MAX_TOTAL_BYTES {
-        return Err(too_long(alloc, name, MAX_TOTAL_BYTES));
-    }
-    match Clip::new(alloc, bytes) {
-        Ok(clip) => Ok(clip),
-        Err(ClipError::Fault(fault)) => Err(Status::File {
-            resource: number,
-            fault,
-        }),
-        Err(ClipError::OutOfMemory) => Err(Status::OutOfMemory),
-    }
+    resources[number as usize].file.as_str()
 }
 
 /// The refusal of a name that isn't there.

@@ -11,4 +11,4 @@ pub returns-clause-scene : goal.returns-clause-scene
 returns-clause-scene c = scene-refused
 
 pub returns-clause-sounds : goal.returns-clause-sounds
-returns-clause-sounds c = λ a b first rest status agree is. sounds-refused a b 0 0 first rest status agree is
+returns-clause-sounds c = λ a b first rest status agree is. sounds-refused a b first rest status agree is

@@ -1,4 +1,4 @@
-use Rattle.std.proofs.Common.{◌≡◌, ◌≤◌, length, ap, arith}
+use Rattle.std.proofs.Common.{◌≤◌, length, arith}
 use Rattle.clip_decode.proofs.Limits.{few_frames}
 use Rattle.resource_mgr.proofs.tape.Tape.whole.Goals as goal
 

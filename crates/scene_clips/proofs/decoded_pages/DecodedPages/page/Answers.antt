@@ -1,4 +1,4 @@
-use Rattle.std.proofs.Common.{◌≡◌, ◌<◌, arith}
+use Rattle.std.proofs.Common.{◌<◌, arith}
 use Rattle.clip_decode.specs.Pages.{page_count}
 use Rattle.scene_clips.proofs.FilePages.{pages_counted, page_at}
 use Rattle.scene_clips.proofs.decoded_pages.DecodedPages.page.Goals as goal

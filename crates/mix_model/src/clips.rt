@@ -31,8 +31,8 @@ pub(crate) fn decoded(
 }
 
 /// The number of frames of each node's clip, by the number of the node: 0 for a group, a splitter
-/// and the endpoint.
-pub(crate) fn clip_lengths(scene: &Scene, clips: &[SceneClip]) -> [u64; MAX_INPUTS]
+/// and the endpoint. `clips` are those of the scene's resources, in their order.
+pub fn clip_lengths(scene: &Scene, clips: &[SceneClip]) -> [u64; MAX_INPUTS]
     ensures { (n : ℕ) → slice_index result n ≡ node_frames clips.now scene.now n }
 {
     let mut lengths = [0; MAX_INPUTS];

@@ -13,7 +13,7 @@
 //! parts of a frame are public, for other renderers of the same mix: the edits that are due
 //! ([`make_due`], [`seek`]), depths of nodes and a topological order of the buses ([`depths`],
 //! [`topological_order`]), what is active and what is pulled ([`is_active`], [`mark_pulled`]), cursors
-//! ([`next_cursor`], [`advance_cursors`]), and what stands before and behind the frames in the file
+//! ([`next_cursor`], [`advance_cursors`]) and the lengths of clips ([`clip_lengths`]), and what stands before and behind the frames in the file
 //! ([`scene_header`], [`write_padding`]).
 //!
 //! The laws, functions that do nothing, say that the definitions hold what one would expect of a mix.
@@ -37,6 +37,7 @@ mod span_laws;
 mod summary;
 mod wav_file;
 
+pub use clips::clip_lengths;
 pub use cursors::{advance_cursors, next_cursor};
 pub use edits::{make_due, seek};
 pub use laws::{

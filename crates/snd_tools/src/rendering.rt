@@ -9,7 +9,8 @@ ghost use Rattle.snd_tools.specs.Outcome as spec;
 ghost use Rattle.snd_tools.specs.Rendered.{said_rendering};
 
 use clip_decode::Clip;
-use mix_model::{Summary, plain_mix};
+use engine::write_mix;
+use mix_model::Summary;
 use plain_data::OutOfMemory;
 use scene_model::Scene;
 use snd_io::MemSink;
@@ -54,7 +55,7 @@ fn mix_in_memory(alloc: Global, scene: &Scene, clips: &[Clip]) -> Result<Mixed, 
     ensures summary { IfOk result (λ m. m.summary ≡ summary_of scene.now (mix scene.now (map (λ clip. clip.bytes) clips.now))) }
 {
     let mut file = MemSink::new(alloc)?;
-    match plain_mix(alloc, scene, clips, &mut file) {
+    match write_mix(alloc, scene, clips, &mut file) {
         Ok(summary) => Ok(Mixed { file, summary }),
         Err(_) => Err(OutOfMemory),
     }

@@ -1,0 +1,13 @@
+pub mod BlockEnds
+pub mod BlockFrames
+pub mod CursorsWithin
+pub mod Edges
+pub mod EditsMade
+pub mod Fed
+pub mod Feeding
+pub mod Middle
+pub mod NodesKept
+pub mod PlayedParts
+pub mod SoundsHeard
+pub mod SpanPlayed
+pub mod TapeClips

@@ -1,0 +1,29 @@
+use Rattle.std.proofs.Common.{◌≡◌, ◌+◌, ◌*◌, ◌≤◌, ℤ, List, true, sym, ◌∙◌, ap, subst, arith, rules}
+use Rattle.scene_model.specs.PlanData.{PlanData}
+use Rattle.scene_model.specs.Reach.{HasNoCycle}
+use Rattle.mix_model.specs.OrderedBuses.{mark_at}
+use Rattle.mix_model.specs.Pulled.{pulled}
+use Rattle.engine.specs.declared.playback.Playback.{Playback}
+use Rattle.engine.specs.Nodes.{IsOrderOf}
+use Rattle.engine.specs.Span.{node_places}
+use Rattle.engine.proofs.NodesKept.{feeds_kept, few_places, node_kept}
+use Rattle.mix_fixed.specs.Kernels.{at}
+use Rattle.engine.proofs.playback.Playback.render_next.Goals as goal
+
+pub returns-clause-next : goal.returns-clause-next
+returns-clause-next c = λ s k span inside here kept.
+    let p = c.args.self.now in
+    let n = c.args.n in
+    let places = c.args.count * p.channels in
+    let marked : mark_at p.marks n ≡ true = search rules in
+    let pulls : pulled p.stage p.time n ≡ true = sym (c.requires.marked n c.requires.node) ∙ marked in
+    let pulls_here : pulled s.first.plan s.first.time n ≡ true = ap (λ (q : PlanData). pulled q s.first.time n) span.plan_is ∙ ap (λ t. pulled p.stage t n) span.time_is ∙ pulls in
+    let none : HasNoCycle s.first.plan.buses = subst (λ (q : PlanData). HasNoCycle q.buses) (sym span.plan_is) c.requires.playable.plan_is.no_cycle in
+    let order : IsOrderOf s.first.plan p.order.items = subst (λ (q : PlanData). IsOrderOf q p.order.items) (sym span.plan_is) c.requires.playable.order_is in
+    let feeds = feeds_kept s places k n p.order.items p.room.kept.items none order inside here pulls_here kept in
+    let are = c.render_node.ensures.outputs s span pulls feeds in
+    let wide : c.args.count * c.render_node.new.self.channels ≡ places = ap (λ (q : Playback). c.args.count * q.channels) c.render_node.ensures.same in
+    let most : places ≤ node_places = few_places c.args.count p.channels c.requires.few c.requires.playable.channels_most in
+    node_kept s places k n p.order.items p.room.kept.items c.keep.new.self.kept.items c.render_node.new.self.room.samples.items most here
+    (λ j below. c.keep.ensures.here j (omega (arith, below, wide)))
+    (λ m j apart below. c.keep.ensures.others m j apart below ∙ ap (λ (xs : List ℤ). at xs (m * node_places + j)) c.render_node.ensures.kept) are kept

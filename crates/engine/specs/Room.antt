@@ -1,0 +1,15 @@
+-- The room for the work on the nodes of a span.
+use Rattle.std.specs.Prelude.{◌≡◌, ◌≤◌, ◌*◌, length}
+use Rattle.mix_fixed.specs.Kernels.{AreSamples}
+use Rattle.scene_model.specs.PlanData.{PlanData}
+use Rattle.engine.specs.declared.room.Room.{Room}
+use Rattle.engine.specs.FeedRoom.{HasFeedRoom}
+use Rattle.engine.specs.Span.{node_places}
+
+-- there is room for the samples of each node, and for the work on one
+pub record IsRoomFor (p : PlanData) (r : Room) : Type 0 where
+  pub kept_are : length p.nodes * node_places ≤ length r.kept.items
+  pub kept_range : AreSamples r.kept.items
+  pub feeds_are : HasFeedRoom (length p.buses) r.feeds
+  pub samples_are : length r.samples.items ≡ node_places
+  pub samples_range : AreSamples r.samples.items

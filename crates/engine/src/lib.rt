@@ -1,0 +1,36 @@
+//! The block engine: a scene's mix, many frames at a time.
+//!
+//! A [`Renderer`] goes through a scene in blocks of 512 frames, or fewer where the next edit falls or
+//! the scene ends ([`Renderer::step`]). Within a block no edit falls, but times of nodes and ends of
+//! clips do. So a block is rendered in spans (`span.rt`), in which no node begins or ceases to be
+//! active: there the same nodes are pulled, and a cursor either stays or plays on. Each node that is
+//! pulled is rendered once a span (`nodes.rt`), behind those that feed it, and its samples are kept for
+//! all its buses: those of a sound from its clip (`sounds.rt`), those of another node as the sum of what
+//! the buses attached to it add (`feeds.rt`). The endpoint's are the samples of the block.
+//!
+//! That the blocks are the mix is the clause `samples` of [`Renderer::block`]: the frames of the scene
+//! from its clock on, which `mix_model` defines frame by frame. `specs/Span.antt` says what the samples of
+//! a node are over a span, and `specs/Playing.antt` what a block is. After [`Renderer::open`] nothing
+//! takes memory.
+//!
+//! [`write_mix`] writes a scene's WAVE file to a sink, block by block, with the very contract of
+//! `mix_model`'s plain mix, which computes each frame by itself.
+#![tactic(auto)]
+
+mod advance;
+mod block;
+mod edits;
+mod feeds;
+mod nodes;
+mod opening;
+mod order;
+mod playback;
+mod renderer;
+mod rendering;
+mod room;
+mod sounds;
+mod span;
+mod steady;
+
+pub use renderer::Renderer;
+pub use rendering::write_mix;

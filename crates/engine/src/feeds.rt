@@ -1,7 +1,7 @@
 //! The input of a node over a span: the sum of what the buses that are attached to it add.
 
 ghost use Rattle.std.specs.Prelude.{◌≡◌, ◌≤◌, ◌<◌, ◌+◌, ◌*◌, ℕ, false, All, length, take, drop, IfOk};
-ghost use Rattle.mix_fixed.specs.Kernels.{AreSamples, AreWithin};
+ghost use Rattle.mix_fixed.specs.Kernels.{AreSamples, AreWithin, most_share};
 ghost use Rattle.scene_model.specs.IsPlan.{IsPlan};
 ghost use Rattle.scene_model.specs.Limits as limits;
 ghost use Rattle.scene_model.specs.Plans.{is_sound};
@@ -148,11 +148,11 @@ fn add_feed(nodes: &[NodeState], bus: &Bus, time: u32, kept: &[i32], sums: &mut 
     requires kept { length nodes.now * node_places ≤ length kept.now }
     requires samples { AreSamples kept.now }
     requires few { length sums.old ≤ node_places }
-    requires sums { AreWithin (limits.most_buses * 134217728) sums.old }
+    requires sums { AreWithin (limits.most_buses * most_share limits.most_gain) sums.old }
     ensures added { (s : Span) (n : ℕ) →
         IsFedBy s n time (length sums.old) nodes.now bus.now kept.now →
         AreAdded s n bus.now sums.old sums.new }
-    ensures within { (most : ℕ) → AreWithin most sums.old → AreWithin (most + 134217728) sums.new }
+    ensures within { (most : ℕ) → AreWithin most sums.old → AreWithin (most + most_share limits.most_gain) sums.new }
 {
     if !is_active(&nodes[bus.node as usize], time) {
         return;

@@ -74,7 +74,7 @@ impl SceneClip {
     /// The clip of the pages of a file of at most 67108864 bytes, for a scene of `rate` frames a
     /// second, 1 to 768000, and `channels` channels, 1 or 2. It takes no memory.
     pub fn of(decoded: DecodedPages, rate: u32, channels: u8) -> SceneClip
-        requires bytes { length decoded.bytes ≤ 67108864 }
+        requires bytes { length decoded.bytes ≤ most_sound_bytes }
         requires rate_least { 1 ≤ rate }
         requires rate_most { rate ≤ 768000 }
         requires channels_least { 1 ≤ channels }

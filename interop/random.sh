@@ -2,8 +2,8 @@
 # Compares scenetool on random input with readings that share no code with it:
 #   `info` on WAVE files, most of them with a fault, with a reading in Python (random_waves.py);
 #   `mix` on scripts, most of them with a fault, with a reading in Python (random_scripts.py);
-#   `mix` on scenes of every kind of sound file, node and edit, with bench/plain_mix.c, a plain C program for the same job:
-#   the bytes written and the lines printed (random_scenes.py).
+#   `mix` on scenes of every kind of sound file, node and edit, with bench/plain_mix.c and bench/block_mix.c, plain C programs for
+#   the same job, frame by frame and in blocks: the bytes written and the lines printed (random_scenes.py).
 #
 # Usage: interop/random.sh [COUNT [FIRST]]      (1000 of each, from number 1 on, by default; from anywhere)
 #
@@ -22,8 +22,10 @@ else
     echo "skipped: python3 is older than 3.11, so no random script was read"
 fi
 if command -v cc > /dev/null; then
-    cc -std=c11 -O2 "$top/bench/plain_mix.c" -o plain_mix
-    python3 "$top/interop/random_scenes.py" "$SCENETOOL" ./plain_mix "$count" "$first"
+    for program in plain_mix block_mix; do
+        cc -std=c11 -O2 "$top/bench/$program.c" -o "$program"
+        python3 "$top/interop/random_scenes.py" "$SCENETOOL" "./$program" "$count" "$first"
+    done
 else
     echo "skipped: no C compiler, so no random scene was mixed"
 fi

@@ -1,4 +1,4 @@
-"""Compares `scenetool mix` with bench/plain_mix.c on random scenes: the bytes written and the lines printed.
+"""Compares `scenetool mix` with a plain C program of bench/ on random scenes: the bytes written and the lines printed.
 
 Usage: random_scenes.py SCENETOOL PLAIN COUNT FIRST     (scenes FIRST to FIRST + COUNT - 1, in a directory that goes away)
 """

@@ -1,5 +1,6 @@
 pub mod BlockEnds
 pub mod BlockFrames
+pub mod CachedRuns
 pub mod CursorsWithin
 pub mod Edges
 pub mod EditsMade

@@ -1,3 +1,4 @@
+pub mod Cached
 pub mod FeedRoom
 pub mod Nodes
 pub mod Playing

@@ -6,7 +6,9 @@
 //! active: there the same nodes are pulled, and a cursor either stays or plays on. Each node that is
 //! pulled is rendered once a span (`nodes.rt`), behind those that feed it, and its samples are kept for
 //! all its buses: those of a sound from its clip (`sounds.rt`), those of another node as the sum of what
-//! the buses attached to it add (`feeds.rt`). The endpoint's are the samples of the block.
+//! the buses attached to it add (`feeds.rt`). The endpoint's are the samples of the block. The first
+//! frames of all clips, as many as fit a budget, are brought to the scene's rate and channels once, when a
+//! renderer opens (`cached_clip.rt`), and copied for each sound that plays them.
 //!
 //! That the blocks are the mix is the clause `samples` of [`Renderer::block`]: the frames of the scene
 //! from its clock on, which `mix_model` defines frame by frame. `specs/Span.antt` says what the samples of
@@ -19,6 +21,7 @@
 
 mod advance;
 mod block;
+mod cached_clip;
 mod edits;
 mod feeds;
 mod nodes;

@@ -7,6 +7,7 @@ ghost use Rattle.resource_mgr.specs.TapeData.{TapeData};
 ghost use Rattle.scene_model.specs.Limits as limits;
 ghost use Rattle.engine.specs.Playing.{IsBefore};
 
+use crate::cached_clip::cached;
 use crate::order::put_in_order;
 use crate::playback::Playback;
 use crate::room::Room;
@@ -42,6 +43,7 @@ impl Playback {
         let (places, buses) = (order.as_mut_slice(), ordered_buses.as_mut_slice());
         put_in_order(plan, places, buses);
         let frames = clip_lengths(scene, clips.as_slice());
+        let clips = cached(alloc, clips)?;
         Ok(Playback {
             scene: Snapshot::of(scene),
             length: scene.length,

@@ -1,10 +1,10 @@
 //! A scene while it is played, span by span.
 
+use crate::cached_clip::CachedClip;
 use crate::room::Room;
 use mix_model::MAX_INPUTS;
 use node_graph::Stage;
 use plain_data::Rows;
-use scene_clips::SceneClip;
 use scene_model::{Bus, NumberedEdit, Scene};
 use std::snapshot::Snapshot;
 
@@ -23,7 +23,7 @@ pub(crate) struct Playback {
     /// The plan before the edits of the frame, or after them.
     pub(crate) stage: Stage,
     /// The clips of the resources, at the scene's rate and channels.
-    pub(crate) clips: Vec<SceneClip>,
+    pub(crate) clips: Vec<CachedClip>,
     /// The edits of the scene in the order of their frames.
     pub(crate) edits: Rows<NumberedEdit>,
     /// The place of the first edit that isn't made yet.

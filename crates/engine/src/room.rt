@@ -10,11 +10,11 @@ ghost use Rattle.engine.specs.Room.{IsRoomFor};
 ghost use Rattle.engine.specs.Sounds.{ArePlayed};
 ghost use Rattle.engine.specs.Span.{Span, AreInputs, FeedsKept, IsSteadyAt, most_span_frames, node_places};
 
+use crate::cached_clip::CachedClip;
 use crate::feeds::{FeedRoom, NODE_PLACES};
 use crate::sounds::play_sound;
 use node_graph::Stage;
 use plain_data::OutOfMemory;
-use scene_clips::SceneClip;
 use std::alloc::Global;
 
 /// Room for the samples of all nodes over a span, and for the work on one of them.
@@ -59,7 +59,7 @@ impl Room {
     }
 
     /// Writes what a sound puts out over the next `frames` frames, at most 512, from its cursor on.
-    pub(crate) fn play(&mut self, clip: &SceneClip, looped: bool, cursor: u64, frames: usize)
+    pub(crate) fn play(&mut self, clip: &CachedClip, looped: bool, cursor: u64, frames: usize)
         requires samples { length self.old.samples.items ≡ node_places }
         requires range { AreSamples self.old.samples.items }
         requires cursor { cursor ≤ clip_length clip.now.bytes clip.now.rate }

@@ -9,13 +9,13 @@ ghost use Rattle.engine.specs.Sounds.{ArePlayed, place_in};
 ghost use Rattle.engine.specs.Span.{most_span_frames};
 
 use crate::advance::played_to;
-use scene_clips::SceneClip;
+use crate::cached_clip::CachedClip;
 
 /// Writes what a sound puts out over a span of `frames` frames, at most 512, interleaved, to the
 /// front of `out`: its clip from `cursor` on. At the clip's end it is silent, or, where it is looped,
 /// silent for the frame that begins there and then at its first frame.
 pub(crate) fn play_sound(
-    clip: &SceneClip,
+    clip: &CachedClip,
     looped: bool,
     cursor: u64,
     frames: usize,
@@ -57,7 +57,7 @@ fn part_frames(frames: u64, looped: bool, place: u64, left: usize) -> usize
 
 /// Writes so many frames from frame `done` of the span on: those of the clip from a place on, and
 /// silence at its end.
-fn play_part(clip: &SceneClip, place: u64, part: usize, done: usize, out: &mut [i32])
+fn play_part(clip: &CachedClip, place: u64, part: usize, done: usize, out: &mut [i32])
     requires place { place ≤ clip_length clip.now.bytes clip.now.rate }
     requires inside { place < clip_length clip.now.bytes clip.now.rate → part ≤ clip_length clip.now.bytes clip.now.rate - place }
     requires few { done + part ≤ most_span_frames }

@@ -45,19 +45,20 @@ pub returns-clause-before : goal.returns-clause-before
 returns-clause-before c =
     let x = c.of.result.value in
     let s = c.args.scene.now in
-    let clips = c.args.clips.items in
+    let clips = c.in_ok-clips.clips.items in
+    let kept : clips ≡ c.args.clips.items = c.in_ok-clips.ensures in
     let v : x ≡ s = c.of.ensures in
     let same = c.scene.view_is ∙ sym v in
     let is : IsScene x = subst (λ (q : SceneData). IsScene q) same c.scene.invariant in
     let stage : c.in_ok-stage.stage ≡ opening x = c.in_ok-stage.ensures ∙ ap opening (sym v) in
-    let frames : (n : ℕ) → slice_index c.clip_lengths-frames.result n ≡ node_frames clips x n = λ n. c.clip_lengths-frames.ensures n ∙ ap (λ (cs : List SceneClipData). node_frames cs s n) c.as_slice-2.ensures.value ∙ ap (λ (q : SceneData). node_frames clips q n) (sym v) in
+    let frames : (n : ℕ) → slice_index c.clip_lengths-frames.result n ≡ node_frames clips x n = λ n. c.clip_lengths-frames.ensures n ∙ ap (λ (cs : List SceneClipData). node_frames cs s n) c.as_slice-2.ensures.value ∙ ap (λ (cs : List SceneClipData). node_frames cs s n) (sym kept) ∙ ap (λ (q : SceneData). node_frames clips q n) (sym v) in
     let channels : c.from.result ≡ x.channels = c.from.ensures ∙ ap (λ (q : SceneData). q.channels) same in
     let plan : c.plan-plan.result.now ≡ c.in_ok-stage.stage = c.plan-plan.ensures in
     let nodes : length c.in_ok-stage.stage.nodes ≡ length c.nodes-nodes.result.now = sym (ap (λ (xs : List NodeState). length xs) c.nodes-nodes.ensures.value ∙ ap (λ (q : PlanData). length q.nodes) plan) in
     let buses : length c.in_ok-stage.stage.buses ≡ length c.buses-2.result.now = sym (ap (λ (xs : List Bus). length xs) c.buses-2.ensures.value ∙ ap (λ (q : PlanData). length q.buses) plan) in
     let orders : (with_items c.in_ok-order.order c.put_in_order.new.order).items ≡ c.put_in_order.new.order = with_items_is c.in_ok-order.order c.put_in_order.new.order (omega (arith, c.put_in_order.auto.order, c.as_mut_slice-places.ensures.len)) in
     let sorted : (with_items c.in_ok-ordered_buses.ordered_buses c.put_in_order.new.ordered_buses).items ≡ c.put_in_order.new.ordered_buses = with_items_is c.in_ok-ordered_buses.ordered_buses c.put_in_order.new.ordered_buses (omega (arith, c.put_in_order.auto.ordered_buses, c.as_mut_slice-buses.ensures.len)) in
-    let of_clips : clips ≡ clips_of x (map (λ (k : SceneClipData). k.bytes) clips) = c.requires ∙ ap (λ (q : SceneData). clips_of q (map (λ (k : SceneClipData). k.bytes) clips)) (sym v) in
+    let of_clips : clips ≡ clips_of x (map (λ (k : SceneClipData). k.bytes) clips) = kept ∙ c.requires ∙ ap (λ (cs : List SceneClipData). clips_of s (map (λ (k : SceneClipData). k.bytes) cs)) (sym kept) ∙ ap (λ (q : SceneData). clips_of q (map (λ (k : SceneClipData). k.bytes) clips)) (sym v) in
     let wide = channels_start x (map (λ (k : SceneClipData). k.bytes) clips) clips of_clips in
     record {
       of_scene = record { scene_is = is; length_is = ap (λ (q : SceneData). q.length) same; edits_are = c.in_ok-edits.ensures ∙ ap in_order (c.as_slice.ensures ∙ ap (λ (q : SceneData). q.edits) same); channels_are = channels; frames_are = frames };

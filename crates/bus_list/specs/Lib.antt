@@ -1,9 +1,10 @@
-pub mod Visits
 pub mod Invariant
-pub mod Transitions
-pub mod Rule
-pub mod Steps
-pub mod Seats
+pub mod Limits
+pub mod ListViews
 pub mod PassStates
 pub mod PassViews
-pub mod ListViews
+pub mod Rule
+pub mod Seats
+pub mod Steps
+pub mod Transitions
+pub mod Visits

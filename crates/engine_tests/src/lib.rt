@@ -1,5 +1,0 @@
-//! The tests of the block engine: its public calls on a worked scene.
-#![tactic(auto)]
-
-#[cfg(test)]
-mod blocks;

@@ -1,10 +1,9 @@
+pub mod Visits
 pub mod Invariant
-pub mod Limits
-pub mod ListViews
+pub mod Transitions
+pub mod Rule
+pub mod Steps
+pub mod Seats
 pub mod PassStates
 pub mod PassViews
-pub mod Rule
-pub mod Seats
-pub mod Steps
-pub mod Transitions
-pub mod Visits
+pub mod ListViews

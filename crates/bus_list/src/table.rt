@@ -29,7 +29,6 @@ pub(crate) struct ListTable<T> {
 
 /// What is no step of a visit or of an edit.
 impl<T> ListTable<T> {
-    ghost use Rattle.bus_list.specs.Limits.{most_buses};
     ghost use Rattle.bus_list.specs.Visits.{LawfulFrom};
     ghost use Rattle.bus_list.specs.Rule.{editor_part, pass_part, joined};
     ghost use Rattle.bus_list.specs.Seats.{IsAt, IsEditorOf, IsPassOf, SameSeat};
@@ -90,7 +89,7 @@ impl<T: Drop> ListTable<T> {
         alloc: Global,
         buses: u32,
     ) -> Result<(ListTable<T>, ListTable<T>, ListSeat<T>), OutOfMemory>
-        requires { (0 < buses) × (buses ≤ most_buses) }
+        requires { (0 < buses) × (buses ≤ 256) }
         ensures { IfOk result (λ r. (r.0.buses ≡ buses) × (r.1.buses ≡ buses) × IsAt r.0 r.2 × IsAt r.1 r.2 × (r.2.me ≡ (first_view buses, []))) }
     {
         let mut words = vec![in alloc; 0u64; 3 * (buses as usize) + 3]?;

@@ -7,3 +7,4 @@ pub mod Seats
 pub mod PassStates
 pub mod PassViews
 pub mod ListViews
+pub mod Limits

@@ -83,13 +83,14 @@ impl<T> ListTable<T> {
 impl<T: Drop> ListTable<T> {
     ghost use Rattle.bus_list.specs.Seats.{IsAt};
     ghost use Rattle.bus_list.specs.Rule.{first_view};
+    ghost use Rattle.bus_list.specs.Limits.{most_buses};
 
     /// A new table for two owners, and its first seat.
     pub(crate) fn open(
         alloc: Global,
         buses: u32,
     ) -> Result<(ListTable<T>, ListTable<T>, ListSeat<T>), OutOfMemory>
-        requires { (0 < buses) × (buses ≤ 256) }
+        requires { (0 < buses) × (buses ≤ most_buses) }
         ensures { IfOk result (λ r. (r.0.buses ≡ buses) × (r.1.buses ≡ buses) × IsAt r.0 r.2 × IsAt r.1 r.2 × (r.2.me ≡ (first_view buses, []))) }
     {
         let mut words = vec![in alloc; 0u64; 3 * (buses as usize) + 3]?;

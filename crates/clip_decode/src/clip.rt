@@ -67,6 +67,18 @@ impl Clip {
     {
         self.bytes.as_slice()
     }
+
+    /// An equal clip over the same bytes, which are not copied. It takes no memory on the heap; the error
+    /// comes where there are too many clips of these bytes to be counted.
+    pub fn share(&self) -> Result<Clip, AllocError>
+        ensures equal { IfOk result (λ clip. clip ≡ self.now) }
+    {
+        let bytes = self.bytes.clone()?;
+        Ok(Clip {
+            bytes,
+            wave: self.wave,
+        })
+    }
 }
 
 impl Clone for Clip {
@@ -75,10 +87,6 @@ impl Clone for Clip {
     ghost is_clone = { λ clip copy. copy ≡ clip };
 
     fn clone(&self) -> Result<Clip, AllocError> {
-        let bytes = self.bytes.clone()?;
-        Ok(Clip {
-            bytes,
-            wave: self.wave,
-        })
+        self.share()
     }
 }

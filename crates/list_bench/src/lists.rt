@@ -1,6 +1,7 @@
 //! Visits and edits in rounds.
 ghost use Rattle.std.specs.Prelude.{◌≡◌, ℕ, ◌<◌, ◌≤◌, ◌+◌, ◌^◌, length, true, false, IfOk, None};
 ghost use Rattle.bus_list.specs.Visits.{attached_feed};
+ghost use Rattle.bus_list.specs.Limits.{most_buses};
 ghost use Rattle.bus_list.specs.PassViews.{is_visiting};
 ghost use Rattle.bus_list.specs.ListViews.{history_of, history_of_editor, buses_of_list, buses_of_editor};
 
@@ -12,7 +13,7 @@ use std::sync::Wait;
 /// A list for so many buses, to the first of which others are attached, in order. The feed of a bus is
 /// its number and 1.
 pub fn filled(alloc: Global, attached: u32, buses: u32) -> Result<Both<u32>, OutOfMemory>
-    requires { (0 < buses) × (buses ≤ 256) × (attached ≤ buses) }
+    requires { (0 < buses) × (buses ≤ most_buses) × (attached ≤ buses) }
     ensures { IfOk result (λ both. (buses_of_list both ≡ buses) × (length (history_of both) ≡ attached)
         × (attached_feed (history_of both) attached ≡ None)) }
 {

@@ -1,1 +1,10 @@
+pub mod Cells
+pub mod ClipPages
 pub mod NotYetText
+pub mod ReadPages
+pub mod ReaderPages
+pub mod Reels
+pub mod Rule
+pub mod Seats
+pub mod Steps
+pub mod Tickets

@@ -13,6 +13,10 @@ pub record TapeData : Type 0 where
   pub wave : Wave
   pub shown : ℕ
 
+-- the tape of a clip of which all pages are shown
+abbrev pub whole_tape : ClipData → TapeData
+whole_tape clip = record { bytes = clip.bytes; wave = clip.wave; shown = page_count clip.wave.frames }
+
 -- what each tape keeps: the file says its wave and isn't too long, and no page is shown that isn't there
 pub record IsTape (clip : ClipData) (shown : ℕ) : Type 0 where
   pub surveyed : wave clip.bytes ≡ Ok clip.wave

@@ -8,13 +8,20 @@
 //! A [`Tape`] has the pages of one clip in which its frames are decoded. It answers each page that
 //! is shown, and [`NotYet`](exec_reel::NotYet) for the others.
 //!
+//! [`decode_all`] makes the whole tapes of all clips, in several threads: workers take the resources
+//! from a list, each decodes its pages into tapes of its own, and the caller decodes what they left.
+//! The tapes are the same for each number of workers and each order in which they run.
+//!
 //! `specs/Fetching.antt` says what is fetched and which fault comes first.
 #![tactic(auto)]
 
+mod decoding;
 mod fetching;
 mod lib_fault;
+mod numbered_tape;
 mod tape;
 
+pub use decoding::{MAX_WORKERS, decode_all};
 pub use fetching::{fetch_clips, fetch_file};
 pub use lib_fault::LibFault;
 pub use tape::Tape;

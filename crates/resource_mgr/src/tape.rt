@@ -5,11 +5,13 @@ ghost use Rattle.clip_decode.specs.Pages.{page_count};
 ghost use Rattle.scene_clips.specs.DecodedPages.{page_data};
 ghost use Rattle.wave_read.specs.Wave.{wave};
 ghost use Rattle.wave_read.specs.Laws.{IsWaveOf};
+ghost use Rattle.resource_mgr.specs.TapeData.{whole_tape};
 
 use clip_decode::{Clip, Page, pages};
 use exec_reel::NotYet;
 use plain_data::OutOfMemory;
-use scene_clips::DecodedPages;
+use scene_clips::{DecodedPages, PageDecoder};
+use snd_io::{FreeGate, Gate};
 use std::alloc::Global;
 use std::marker::Model;
 use wave_read::Wave;
@@ -53,11 +55,30 @@ impl Tape {
     /// [`OutOfMemory`] where there is no memory; nothing has changed then.
     pub fn whole(alloc: Global, clip: &Clip) -> Result<Tape, OutOfMemory>
         requires { length clip.now.bytes ≤ most_sound_bytes }
-        ensures { IfOk result (λ tape. tape
-            ≡ record { bytes = clip.now.bytes; wave = clip.now.wave; shown = page_count clip.now.wave.frames }) }
+        ensures { IfOk result (λ tape. tape ≡ whole_tape clip.now) }
     {
-        let decoded = DecodedPages::decode(alloc, clip)?;
-        let shown = page_total(decoded.wave());
+        Tape::decode(alloc, clip, 0, &FreeGate)
+    }
+
+    /// The same for the clip of the resource of that number, with the calls of a gate before and
+    /// after each page.
+    pub(crate) fn decode<G: Gate>(
+        alloc: Global,
+        clip: &Clip,
+        resource: u32,
+        gate: &G,
+    ) -> Result<Tape, OutOfMemory>
+        requires { length clip.now.bytes ≤ most_sound_bytes }
+        ensures { IfOk result (λ tape. tape ≡ whole_tape clip.now) }
+    {
+        let shown = page_total(clip.wave());
+        let mut decoder = PageDecoder::new(alloc, clip);
+        for page in 0..shown {
+            gate.before_job(resource, page);
+            decoder.decode_next(alloc)?;
+            gate.after_job(resource, page);
+        }
+        let decoded = decoder.finish();
         Ok(Tape { decoded, shown })
     }
 

@@ -2,7 +2,7 @@
 use Rattle.std.proofs.Common.{◌≡◌, ℕ, zero, suc, ◌+◌, ◌-◌, ◌*◌, ◌/◌, ◌%◌, ◌<◌, ◌≤◌, min, List, [], ◌∷◌, ◌++◌, length, map, take, drop, replicate, ℤ, pos, get_or, refl, ap, sym, ◌∙◌, arith, add-one}
 use Rattle.std.specs.Prelude.{Ok}
 use Rattle.std.specs.List.{range_with_len}
-use Rattle.std.proofs.Math.Nat.{mul-le-mul_right}
+use Rattle.std.proofs.Math.Nat.{mul-le-mul_right, div-add-mod', add-mul, mod-lt, lt_of_mul-lt-mul_right}
 use Rattle.std.proofs.lemmas.List.{ext_get_or, get_or-take, get_or-drop, length-drop, length-take-le}
 use Rattle.std.proofs.lemmas.List.FromFn.{length-map-range_with_len, get_or-map-range_with_len}
 use Rattle.clip_decode.specs.Frames.{frame_by, frames, interleaved}
@@ -94,6 +94,37 @@ module _ (bytes : List ℕ) (w : Wave) (frame : ℕ) (said : wave bytes ≡ Ok w
       rw listed (joined_part made w.channels wide (8192 * (frame / 8192)) held (frame % 8192) inside)
       ∙ ap made place ∙ sym (frame_of bytes w frame (replicate w.channels (pos 0)) said below)
 
+  -- the samples from the frame's first on
+  pub rest_fits : frame % 8192 * w.channels ≤ length (interleaved (page_frames bytes (frame / 8192)))
+  rest_fits = omega (arith, frame_fits)
+
+  whole : length (interleaved (page_frames bytes (frame / 8192))) ≡ held * w.channels
+  whole = rw listed (length_joined made w.channels wide (8192 * (frame / 8192)) held)
+
+  pub rest_holds : w.channels ≤ length (drop (frame % 8192 * w.channels) (interleaved (page_frames bytes (frame / 8192))))
+  rest_holds = omega (arith, frame_fits, length-drop (frame % 8192 * w.channels) (interleaved (page_frames bytes (frame / 8192))))
+
+  pub sample_in_page : (j : ℕ) → 0 < w.channels → j < length (drop (frame % 8192 * w.channels) (interleaved (page_frames bytes (frame / 8192))))
+      → get_or (drop (frame % 8192 * w.channels) (interleaved (page_frames bytes (frame / 8192)))) j (pos 0)
+      ≡ get_or (frame_or_silence w.channels (frames bytes) (frame + j / w.channels)) (j % w.channels) (pos 0)
+  unfolding made held
+  sample_in_page j some inside_page =
+      let ch = w.channels in
+      let a = 8192 * (frame / 8192) in
+      let first = frame % 8192 in
+      let k = first + j / ch in
+      let long : first * ch + j < held * ch = omega (arith, inside_page, whole, length-drop (first * ch) (interleaved (page_frames bytes (frame / 8192)))) in
+      let split : first * ch + j ≡ k * ch + j % ch = omega (arith, div-add-mod' j ch, add-mul first (j / ch) ch) in
+      let channel : j % ch < ch = mod-lt j some in
+      let below_held : k < held = lt_of_mul-lt-mul_right ch (omega (arith, long, split)) in
+      let there : a + k ≡ frame + j / ch = omega arith in
+      let last : frame + j / ch < w.frames = omega (arith, below_held, there) in
+      get_or-drop (first * ch) (interleaved (page_frames bytes (frame / 8192))) j (pos 0)
+      ∙ ap (λ i. get_or (interleaved (page_frames bytes (frame / 8192))) i (pos 0)) split
+      ∙ rw listed (joined_at made ch wide a held k (j % ch) below_held channel)
+      ∙ ap (λ i. get_or (made i) (j % ch) (pos 0)) there
+      ∙ ap (λ f. get_or f (j % ch) (pos 0)) (sym (frame_of bytes w (frame + j / ch) (replicate ch (pos 0)) said last))
+
 get_or_past : {X : Type 0} (xs : List X) (i : ℕ) (d : X) → length xs ≤ i → get_or xs i d ≡ d
 get_or_past [] i d past = refl
 get_or_past (x ∷ xs) zero d past = absurd (omega arith)
@@ -104,3 +135,8 @@ pub silence_past_end : (bytes : List ℕ) (w : Wave) (n : ℕ) → wave bytes �
     → frame_or_silence w.channels (frames bytes) n ≡ replicate w.channels (pos 0)
 silence_past_end bytes w n said past =
     get_or_past (frames bytes) n (replicate w.channels (pos 0)) (omega (arith, frames_counted bytes w said, past))
+
+-- each frame of the file has its channels
+pub frame_wide : (bytes : List ℕ) (w : Wave) (n : ℕ) → wave bytes ≡ Ok w → n < w.frames → length (frame_or_silence w.channels (frames bytes) n) ≡ w.channels
+frame_wide bytes w n said below =
+    ap length (frame_of bytes w n (replicate w.channels (pos 0)) said below) ∙ length-map-range_with_len (sample_of bytes w n) 0 w.channels

@@ -1,5 +1,7 @@
+pub mod Copies
 pub mod FilePages
 pub mod FramesAtRate
+pub mod Middle
 pub mod Rates
 pub mod Silence
 pub mod Walked

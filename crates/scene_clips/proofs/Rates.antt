@@ -50,7 +50,7 @@ unfolding clip_sample
 blended_is bytes w fit channels n c p first second said input_rate point first_is second_is =
     rw (first_is, second_is, point, input_rate, rate_of bytes w said) refl
 
-whole_quotient : (a : ℤ) (r : ℕ) → 0 < r → int_div_euclid (a *ℤ pos r) (pos r) ≡ a
+pub whole_quotient : (a : ℤ) (r : ℕ) → 0 < r → int_div_euclid (a *ℤ pos r) (pos r) ≡ a
 whole_quotient (pos n) r some = omega (arith, ints, mul-div_cancel n {n = r} some)
 whole_quotient (negsuc n) r some =
     let product : negsuc n *ℤ pos r ≡ negsuc (n * r + (r - 1)) = omega (arith, ints) in

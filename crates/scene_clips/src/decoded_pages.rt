@@ -1,6 +1,6 @@
 //! All pages of a clip, decoded once.
 
-ghost use Rattle.std.specs.Prelude.{◌≡◌, ◌+◌, ◌<◌, ◌≤◌, length, All, take, drop, IfOk};
+ghost use Rattle.std.specs.Prelude.{◌≡◌, ◌+◌, ◌/◌, ◌%◌, ◌<◌, ◌≤◌, ℕ, pos, length, slice_index_or, All, take, drop, IfOk};
 ghost use Rattle.clip_decode.specs.Frames.{frames};
 ghost use Rattle.clip_decode.specs.Pages.{page_count};
 ghost use Rattle.mix_fixed.specs.Sound.{Is24};
@@ -9,7 +9,8 @@ ghost use Rattle.wave_read.specs.Laws.{IsWaveOf};
 ghost use Rattle.scene_clips.specs.DecodedPages.{frame_or_silence, page_data, pages_data};
 
 use crate::file_content::FileContent;
-use clip_decode::{Clip, Cursor, FRAMES_PER_PAGE, Page, fill, pages};
+use crate::page_decoder::PageDecoder;
+use clip_decode::{Clip, FRAMES_PER_PAGE, Page, pages};
 use plain_data::OutOfMemory;
 use std::alloc::Global;
 use std::marker::Model;
@@ -39,22 +40,6 @@ impl Model for DecodedPages {
     ghost invariant = { λ d. AreAllPages d.content.bytes d.wave d.pages.items };
 }
 
-/// All pages of a clip.
-fn decode_pages(alloc: Global, clip: &Clip) -> Result<Vec<Page>, OutOfMemory>
-    ensures { IfOk result (λ all. all.items
-        ≡ pages_data clip.now.bytes clip.now.wave (page_count clip.now.wave.frames)) }
-{
-    let wave = clip.wave();
-    let mut all = Vec::new(alloc);
-    let mut cursor = Cursor::start();
-    for k in 0..pages(wave) {
-        let mut page = Page::new(alloc, wave.channels)?;
-        fill(&mut cursor, clip, &mut page);
-        all.push(page)?;
-    }
-    Ok(all)
-}
-
 /// The frame of `count` samples from place `place` on.
 fn frame_at(samples: &[i32], place: usize, count: usize) -> &[i32]
     requires { place + count ≤ length samples.now }
@@ -63,6 +48,15 @@ fn frame_at(samples: &[i32], place: usize, count: usize) -> &[i32]
     ensures range { All (λ sample. Is24 sample) samples.now → All (λ sample. Is24 sample) result.now }
 {
     &samples[place..place + count]
+}
+
+/// The samples from place `place` on.
+fn samples_behind(samples: &[i32], place: usize) -> &[i32]
+    requires { place ≤ length samples.now }
+    ensures value { result.now ≡ drop place samples.now }
+    ensures range { All (λ sample. Is24 sample) samples.now → All (λ sample. Is24 sample) result.now }
+{
+    &samples[place..]
 }
 
 impl DecodedPages {
@@ -75,13 +69,23 @@ impl DecodedPages {
     pub fn decode(alloc: Global, clip: &Clip) -> Result<DecodedPages, OutOfMemory>
         ensures { IfOk result (λ decoded. decoded ≡ clip.now) }
     {
-        let wave = clip.wave();
-        let all = decode_pages(alloc, clip)?;
-        Ok(DecodedPages {
+        let mut decoder = PageDecoder::new(alloc, clip);
+        for _ in 0..pages(clip.wave()) {
+            decoder.decode_next(alloc)?;
+        }
+        Ok(decoder.finish())
+    }
+
+    /// The clip whose pages these are, all of them.
+    pub(crate) fn of(clip: &Clip, pages: Vec<Page>) -> DecodedPages
+        requires { pages.items ≡ pages_data clip.now.bytes clip.now.wave (page_count clip.now.wave.frames) }
+        ensures { result ≡ clip.now }
+    {
+        DecodedPages {
             content: FileContent::of(clip.bytes()),
-            wave: *wave,
-            pages: all,
-        })
+            wave: *clip.wave(),
+            pages,
+        }
     }
 
     /// What the file says of its sound, as the clip answers it.
@@ -118,5 +122,19 @@ impl DecodedPages {
         let page = &self.pages[(n / FRAMES_PER_PAGE) as usize];
         let place = (n % FRAMES_PER_PAGE) as usize * count;
         frame_at(page.samples(), place, count)
+    }
+
+    /// The samples from frame `n` on, below the number of the file's frames, as far as its page goes: one frame
+    /// after the other, in the file's channels.
+    pub fn samples_from(&self, n: u64) -> &[i32]
+        requires { n < self.now.wave.frames }
+        ensures some { self.now.wave.channels ≤ length result.now }
+        ensures values { (j : ℕ) → j < length result.now → slice_index_or result.now j (pos 0)
+            ≡ slice_index_or (frame_or_silence self.now.wave.channels (frames self.now.bytes) (n + j / self.now.wave.channels)) (j % self.now.wave.channels) (pos 0) }
+        ensures range { All (λ sample. Is24 sample) result.now }
+    {
+        let number = (n / FRAMES_PER_PAGE) as usize;
+        let place = (n % FRAMES_PER_PAGE) as usize * usize::from(self.wave.channels);
+        samples_behind(self.pages[number].samples(), place)
     }
 }

@@ -20,8 +20,10 @@ use std::marker::Model;
 /// Contracts see it as the `bytes` of the file and the scene's `rate` and `channels`.
 #[derive(Drop)]
 pub struct SceneClip {
-    decoded: DecodedPages,
-    converter: Converter,
+    pub(crate) decoded: DecodedPages,
+    pub(crate) converter: Converter,
+    /// Whether the file has the scene's rate and channels.
+    pub(crate) unchanged: bool,
 }
 
 impl Model for SceneClip {
@@ -31,7 +33,7 @@ impl Model for SceneClip {
 
     ghost view = { λ s. record { bytes = s.decoded.bytes; rate = s.converter.conversion.output_rate; channels = s.converter.channels } };
 
-    ghost invariant = { λ s. IsSceneClip s.decoded s.converter };
+    ghost invariant = { λ s. IsSceneClip s.decoded s.converter s.unchanged };
 }
 
 /// Puts a frame of two channels into its place.
@@ -81,8 +83,14 @@ impl SceneClip {
         requires channels_most { channels ≤ 2 }
         ensures { result ≡ record { bytes = decoded.bytes; rate = rate; channels = channels } }
     {
-        let converter = Converter::new(decoded.wave(), rate, channels);
-        SceneClip { decoded, converter }
+        let wave = decoded.wave();
+        let unchanged = wave.rate == rate && wave.channels == channels;
+        let converter = Converter::new(wave, rate, channels);
+        SceneClip {
+            decoded,
+            converter,
+            unchanged,
+        }
     }
 
     /// The scene's channels, 1 or 2.
@@ -120,7 +128,8 @@ impl SceneClip {
     }
 
     /// Writes `count` frames from frame `from` on into `out`: the sample of each channel of the scene,
-    /// one frame after the other, as `sample` answers them. It divides only where it begins.
+    /// one frame after the other, as `sample` answers them. It divides only where it begins, and copies whole
+    /// pages where there is nothing to convert.
     pub fn run(&self, from: u64, count: usize, out: &mut [i32])
         requires frames { from + count ≤ clip_length self.now.bytes self.now.rate }
         requires room { length out.old ≡ count * self.now.channels }
@@ -129,7 +138,9 @@ impl SceneClip {
             (from + j / self.now.channels) (j % self.now.channels) }
         ensures samples { (j : ℕ) → j < count * self.now.channels → Is24 (slice_index_or out.new j (pos 0)) }
     {
-        if self.channels() == 2 {
+        if self.is_unchanged() {
+            self.copies(from, count, out);
+        } else if self.channels() == 2 {
             self.pairs(from, count, out);
         } else {
             self.singles(from, count, out);

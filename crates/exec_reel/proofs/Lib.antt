@@ -1,0 +1,11 @@
+pub mod Among
+pub mod Frame
+pub mod DrawSteps
+pub mod LoadSteps
+pub mod ReaderSteps
+pub mod WorkSteps
+pub mod Opens
+pub mod CellLists
+pub mod Shelves
+pub mod RuleLaws
+pub mod AtTable

@@ -1,3 +1,4 @@
+pub mod Appending
 pub mod BlockEnds
 pub mod BlockFrames
 pub mod CachedRuns

@@ -5,5 +5,7 @@ pub mod Playing
 pub mod RendererData
 pub mod Rendering
 pub mod Room
+pub mod RunAnswers
+pub mod RunFaultText
 pub mod Sounds
 pub mod Span

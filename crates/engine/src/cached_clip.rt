@@ -36,14 +36,19 @@ impl Model for CachedClip {
     ghost invariant = { λ c. IsCached c.clip c.frames c.cells.items };
 }
 
-/// The clips, with the first frames of each cached, as long as there are not too many.
+/// The clips, with the first frames of each cached, as long as there are not too many. Of a clip whose file has
+/// the scene's rate and channels none are, since a run of it is a copy by itself.
 pub(crate) fn cached(alloc: Global, clips: Vec<SceneClip>) -> Result<Vec<CachedClip>, OutOfMemory>
     ensures { IfOk result (λ all. all.items ≡ clips.items) }
 {
     let mut all = Vec::new(alloc);
     let mut left = MOST_CACHED_FRAMES;
     for clip in clips {
-        let frames = clip.len().min(left);
+        let frames = if clip.is_unchanged() {
+            0
+        } else {
+            clip.len().min(left)
+        };
         all.push(CachedClip::new(alloc, clip, frames as usize)?)?;
         left -= frames;
     }

@@ -15,8 +15,8 @@
 //! a node are over a span, and `specs/Playing.antt` what a block is. After [`Renderer::open`] nothing
 //! takes memory.
 //!
-//! [`write_mix`] writes a scene's WAVE file to a sink, block by block, with the very contract of
-//! `mix_model`'s plain mix, which computes each frame by itself.
+//! [`mix`] renders a scene on the calling thread and sets a file of a store to its WAVE file, block by block
+//! (`out_file.rt`): the bytes that `mix_model`'s plain mix writes, which computes each frame by itself. [`render`] sets it to the same bytes, and has the clips decoded by several threads.
 #![tactic(auto)]
 
 mod advance;
@@ -27,13 +27,16 @@ mod feeds;
 mod nodes;
 mod opening;
 mod order;
+mod out_file;
 mod playback;
 mod renderer;
 mod rendering;
 mod room;
+mod run_fault;
 mod sounds;
 mod span;
 mod steady;
 
 pub use renderer::Renderer;
-pub use rendering::write_mix;
+pub use rendering::{mix, render};
+pub use run_fault::RunFault;

@@ -3,7 +3,7 @@ use Rattle.std.proofs.Common.{◌≡◌, ℕ, ◌+◌, ◌*◌, ◌/◌, ◌<◌
 use Rattle.std.specs.Prelude.{ℤ, pos, Ok, All}
 use Rattle.std.specs.Int.{int_div_euclid}
 use Rattle.std.proofs.Math.Nat.{mul-div_cancel_left}
-use Rattle.std.proofs.lemmas.List.{append_assoc, length-replicate, length-map, drop-drop, ext_get_or, get_or-map, map-id}
+use Rattle.std.proofs.lemmas.List.{append_assoc, length-append, length-replicate, length-map, drop-drop, ext_get_or, get_or-map, map-id}
 use Rattle.std.proofs.lemmas.List.Elements.{All-get_or}
 use Rattle.std.proofs.lemmas.List.FromFn.{length-map-range_with_len, get_or-map-range_with_len}
 use Rattle.std.proofs.lemmas.Nat.{mul-le}
@@ -23,7 +23,7 @@ use Rattle.mix_model.specs.Mix.{clips_of, mix}
 use Rattle.mix_model.specs.Output.{padding, wav}
 use Rattle.mix_model.specs.ReadBack.{AreFramesOf, written_wave}
 use Rattle.mix_model.specs.Signals.{frame}
-use Rattle.mix_model.proofs.HeadersRead.{IsWritable, wave_read_back}
+use Rattle.mix_model.proofs.HeadersRead.{IsWritable, wave_read_back, length_file}
 use Rattle.mix_model.proofs.FrameSamples.{frames_count, frames_widths}
 use Rattle.mix_model.proofs.PackedSamples.{length_interleaved, width_cases, length_packed, interleaved_at, packed_at, value_16, value_24}
 use Rattle.mix_model.proofs.Written.{samples_24}
@@ -169,3 +169,16 @@ mix_wave s files scene = wave_is s (mix s files) scene (mix_has_frames s files)
 
 pub mix_frames : (s : SceneData) (files : List (List ℕ)) → IsScene s → s.width ≡ 24 → frames (wav s (mix s files)) ≡ mix s files
 mix_frames s files scene is = frames_24 s (mix s files) scene (mix_has_frames s files) (mix_has_24 s files) is
+
+-- the bytes of the file: the header, the data, and the pad byte if there is one
+pub mix_bytes : (s : SceneData) (files : List (List ℕ)) (size : ℕ) → IsScene s → size ≡ data_bytes s.channels s.width s.length
+    → length (wav s (mix s files)) ≡ 44 + size + length (padding size)
+mix_bytes s files size scene is =
+    let written = mix s files in
+    let are = mix_has_frames s files in
+    let sound = packed s.width (interleaved written) in
+    let pad = padding (data_bytes s.channels s.width s.length) in
+    let samples : length sound ≡ size = length_data s written scene are ∙ sym is in
+    let end : length pad ≡ length (padding size) = ap (λ n. length (padding n)) (sym is) in
+    let parts : length (sound ++ pad) ≡ length sound + length pad = length-append sound pad in
+    ap length (file_is s written are) ∙ omega (arith, length_file s.channels s.rate s.width s.length sound pad, parts, samples, end)

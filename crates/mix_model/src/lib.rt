@@ -13,8 +13,8 @@
 //! parts of a frame are public, for other renderers of the same mix: the edits that are due
 //! ([`make_due`], [`seek`]), depths of nodes and a topological order of the buses ([`depths`],
 //! [`topological_order`]), what is active and what is pulled ([`is_active`], [`mark_pulled`]), cursors
-//! ([`next_cursor`], [`advance_cursors`]) and the lengths of clips ([`clip_lengths`]), and what stands before and behind the frames in the file
-//! ([`scene_header`], [`write_padding`]).
+//! ([`next_cursor`], [`advance_cursors`]) and the lengths of clips ([`clip_lengths`]), and what stands before
+//! and behind the frames in the file ([`scene_header`], [`is_padded`], [`write_padding`], [`file_bytes`]).
 //!
 //! The laws, functions that do nothing, say that the definitions hold what one would expect of a mix.
 //! Those of `span_laws.rt` are for a renderer that computes many frames at a time: how a scene goes on
@@ -54,4 +54,4 @@ pub use span_laws::{
     no_edit_falls_before_the_next, pulls_stay_between_times, samples_stand_frame_by_frame,
 };
 pub use summary::Summary;
-pub use wav_file::{scene_header, write_padding};
+pub use wav_file::{file_bytes, is_padded, scene_header, write_padding};

@@ -2,9 +2,9 @@
 //! commands, and ends with the status that they answer.
 #![tactic(auto)]
 
-use snd_tools::{DiskDepot, Status, TextOut, run_tool};
+use snd_tools::{DiskDepot, Status, TextOut, print_text, program_words, run_tool};
+use std::io;
 use std::process::ExitCode;
-use std::{env, io};
 
 const HELP: &str = "\
 scenetool renders scenes of sound to WAVE files.
@@ -38,31 +38,15 @@ README.md and docs/ in the repository say more.
 
 const VERSION: &str = "scenetool 0.1.0\n";
 
-/// The line of want of memory, where there is none for the words.
-const OUT_OF_MEMORY: &str = "out of memory\n";
-
 fn main(rt: HostRuntime) -> ExitCode {
-    let words = match words(&rt) {
+    let words = match program_words(&rt) {
         Ok(words) => words,
-        Err(Status::OutOfMemory) => return out_of_memory(&rt),
-        Err(status) => return ExitCode::from(status.code()),
+        Err(code) => return code,
     };
     match words.as_slice() {
-        [word] if word.as_str() == "--help" => print(&rt, HELP),
-        [word] if word.as_str() == "--version" => print(&rt, VERSION),
+        [word] if word.as_str() == "--help" => print_text(&rt, HELP),
+        [word] if word.as_str() == "--version" => print_text(&rt, VERSION),
         words => ExitCode::from(run(&rt, words).code()),
-    }
-}
-
-/// The words after the program's name. A word that isn't UTF-8 doesn't fit any form.
-fn words(rt: &HostRuntime) -> Result<Vec<String>, Status> {
-    match env::args(rt) {
-        Ok(args) => match args.skip(1).collect(rt.alloc()) {
-            Ok(words) => Ok(words),
-            Err(_) => Err(Status::OutOfMemory),
-        },
-        Err(error) if error.kind() == io::ErrorKind::OutOfMemory => Err(Status::OutOfMemory),
-        Err(_) => Err(Status::Usage { word: 0 }),
     }
 }
 
@@ -70,17 +54,4 @@ fn run(rt: &HostRuntime, words: &[String]) -> Status {
     let mut depot = DiskDepot::new(rt);
     let mut text = TextOut::new(io::writer(rt));
     run_tool(rt.alloc(), words, &mut depot, &mut text)
-}
-
-fn out_of_memory(rt: &impl Print) -> ExitCode {
-    // Where the line can't be printed either, the status says it alone.
-    rt.print(OUT_OF_MEMORY).ok();
-    ExitCode::from(Status::OutOfMemory.code())
-}
-
-fn print(rt: &impl Print, text: &str) -> ExitCode {
-    match rt.print(text) {
-        Ok(()) => ExitCode::SUCCESS,
-        Err(_) => ExitCode::from(Status::TextFault.code()),
-    }
 }

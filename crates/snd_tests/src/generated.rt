@@ -122,7 +122,7 @@ fn next_name(alloc: Global, i: usize) -> Result<String, AllocError> {
 }
 
 /// A store that fails at this call, which takes so many bytes.
-fn failing(alloc: Global, call: u32, taken: u32) -> Result<MemDepot, OutOfMemory>
+pub fn failing(alloc: Global, call: u32, taken: u32) -> Result<MemDepot, OutOfMemory>
     ensures { IfOk result (λ depot. mem_writing depot ≡ None) }
 {
     let mut depot = MemDepot::new(alloc)?;

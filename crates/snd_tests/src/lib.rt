@@ -17,6 +17,8 @@ mod plain_mixes;
 #[cfg(test)]
 mod programs;
 #[cfg(test)]
+mod renders;
+#[cfg(test)]
 mod scenes;
 #[cfg(test)]
 mod script_faults;

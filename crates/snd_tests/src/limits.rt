@@ -41,10 +41,12 @@ resource = [{ name = \"a\", file = \"long\" }, { name = \"b\", file = \"long\" }
 ";
 
 /// The status and the line of `mix` of a script, where `long` has 64 MiB, `longer` one byte
-/// more, and `short` is empty sound.
+/// more, and `short` is empty sound. Both long files are an empty sound too, and a chunk that is passed over.
 fn is_told(alloc: Global, script: &str, code: u8, line: &str) -> Result<bool, OutOfMemory> {
     let mut depot = SureDepot::new(alloc)?;
-    let mut long = Vec::from_slice(alloc, &header(1, 8000, 16, 33_554_410))?;
+    let mut long = Vec::from_slice(alloc, &header(1, 8000, 16, 0))?;
+    long.extend_from_slice(b"JUNK")?;
+    long.extend_from_slice(&67_108_812u32.to_le_bytes())?;
     long.resize(67_108_864, 0)?;
     depot.set(alloc, "long", &long)?;
     long.push(0)?;

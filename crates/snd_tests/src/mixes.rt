@@ -1,10 +1,12 @@
 //! `mix` of a scene of one sound, over a store in memory.
 ghost use Rattle.std.specs.Prelude.{◌≡◌, None, IfOk};
+ghost use Rattle.snd_io.specs.MemFiles.{mem_writing};
 ghost use Rattle.snd_io.specs.SureFiles.{sure_writing};
 
+use crate::generated::failing;
 use crate::programs::{ends, is_bytes, run, script, words_of};
 use plain_data::OutOfMemory;
-use snd_io::{MemDepot, MemSink, Snag, SureDepot};
+use snd_io::{MemDepot, MemSink, SureDepot};
 use snd_tools::{Status, run_tool};
 use std::alloc::{AllocError, Global};
 use std::test::Fail;
@@ -126,18 +128,20 @@ fn what_is_refused_changes_no_file(rt: HostRuntime) -> Result<(), Fail> {
     Ok(())
 }
 
-/// What is left of OUT after `mix` of the four samples into a store that fails at this call.
-fn mix_failing(alloc: Global, call: u32) -> Result<(u8, Option<usize>), OutOfMemory> {
-    let mut depot = MemDepot::new(alloc)?;
+/// A store with the scene of the four samples, which fails at this call and takes 7 bytes.
+pub fn failing_at(alloc: Global, call: u32) -> Result<MemDepot, OutOfMemory>
+    ensures { IfOk result (λ depot. mem_writing depot ≡ None) }
+{
+    let mut depot = failing(alloc, call, 7)?;
     let text = script(alloc, 8000, 1, 16, 4)?;
     depot.set(alloc, "scene.toml", text.as_str().as_bytes())?;
     depot.set(alloc, "tone.wav", TONE)?;
-    let snag = Snag {
-        appends_only: false,
-        call,
-        taken: 7,
-    };
-    depot.fail(alloc, snag)?;
+    Ok(depot)
+}
+
+/// The status of `mix` into that store, and how many bytes OUT has.
+fn mix_failing(alloc: Global, call: u32) -> Result<(u8, Option<usize>), OutOfMemory> {
+    let mut depot = failing_at(alloc, call)?;
     let (status, _) = run(alloc, &mut depot, MIX)?;
     Ok((
         status.code(),
@@ -147,12 +151,12 @@ fn mix_failing(alloc: Global, call: u32) -> Result<(u8, Option<usize>), OutOfMem
 
 #[test]
 fn a_failing_call_leaves_a_prefix(rt: HostRuntime) -> Result<(), Fail> {
-    // Two fetches, create, append and finish: what is left of the 52 bytes.
-    let left = [None, None, None, Some(7), Some(52)];
+    // Two fetches, create, an append for the header and one for the block, and finish: what is left of the 52 bytes.
+    let left = [None, None, None, Some(7), Some(51), Some(52)];
     for (call, want) in (1..).zip(left) {
         assert_eq!(rt; mix_failing(rt.alloc(), call)?, (3, want), "{call}");
     }
-    assert_eq!(rt; mix_failing(rt.alloc(), 6)?, (0, Some(52)));
+    assert_eq!(rt; mix_failing(rt.alloc(), 7)?, (0, Some(52)));
     Ok(())
 }
 

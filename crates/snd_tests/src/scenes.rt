@@ -1,8 +1,12 @@
 //! Whole scenes that were worked out by hand, each by its script, its samples and the samples that
 //! come out.
+ghost use Rattle.std.specs.Prelude.{◌≡◌, None, IfOk};
+ghost use Rattle.snd_io.specs.SureFiles.{sure_writing};
+
 use crate::mixes::EMPTY;
-use crate::programs::{data_of, mixed, sound};
+use crate::programs::{data_of, depot_of, mixed, run, sound};
 use plain_data::OutOfMemory;
+use snd_io::SureDepot;
 use std::alloc::{AllocError, Global};
 use std::test::Fail;
 
@@ -14,10 +18,10 @@ const SOUNDS: &str =
     "resource = [{ name = \"a\", file = \"a.wav\" }, { name = \"b\", file = \"b.wav\" }]\n";
 
 /// A scene by the rest of its script, the samples of `a` and of `b`, and those that come out.
-type Worked = (&'static str, &'static [i16], &'static [i16], &'static [i16]);
+pub type Worked = (&'static str, &'static [i16], &'static [i16], &'static [i16]);
 
 /// The scenes.
-const WORKED: &[Worked] = &[
+pub const WORKED: &[Worked] = &[
     // No node at all.
     ("length = 0", &[], &[], &[]),
     ("length = 3", &[], &[], &[0, 0, 0]),
@@ -117,19 +121,27 @@ fn bytes_of(alloc: Global, samples: &[i16]) -> Result<Vec<u8>, AllocError> {
     Ok(bytes)
 }
 
+/// A store with the script of a scene and its sound files, which have at most 9 samples.
+pub fn worked_depot(alloc: Global, worked: &Worked) -> Result<SureDepot, OutOfMemory>
+    ensures { IfOk result (λ depot. sure_writing depot ≡ None) }
+{
+    let (rest, a, b, _) = worked;
+    let script = format!(in alloc; "{TOP}{SOUNDS}{rest}\n")?;
+    let a = sound(alloc, 1, 8000, &a[..a.len().min(9)])?;
+    let b = sound(alloc, 1, 8000, &b[..b.len().min(9)])?;
+    let files: [(&str, &[u8]); 2] = [("a.wav", &a), ("b.wav", &b)];
+    depot_of(alloc, script.as_str(), &files)
+}
+
 /// Whether a scene comes out as it was worked out.
 fn is_worked(alloc: Global, worked: &Worked) -> Result<bool, OutOfMemory> {
-    let (rest, a, b, want) = worked;
-    if a.len() > 9 || b.len() > 9 {
+    let mut depot = worked_depot(alloc, worked)?;
+    run(alloc, &mut depot, &["mix", "scene.toml", "out.wav"])?;
+    let want = bytes_of(alloc, worked.3)?;
+    let Some(out) = depot.file("out.wav") else {
         return Ok(false);
-    }
-    let script = format!(in alloc; "{TOP}{SOUNDS}{rest}\n")?;
-    let a = sound(alloc, 1, 8000, a)?;
-    let b = sound(alloc, 1, 8000, b)?;
-    let files: [(&str, &[u8]); 2] = [("a.wav", &a), ("b.wav", &b)];
-    let (out, _) = mixed(alloc, script.as_str(), &files)?;
-    let want = bytes_of(alloc, want)?;
-    Ok(out.len() >= 44 && data_of(&out) == want.as_slice())
+    };
+    Ok(out.len() >= 44 && data_of(out) == want.as_slice())
 }
 
 #[test]

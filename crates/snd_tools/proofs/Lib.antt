@@ -1,4 +1,5 @@
 pub mod Lines
+pub mod MixOutcomes
 pub mod NamedClips
 pub mod NamedFiles
 pub mod Numbers

@@ -10,8 +10,8 @@ use Rattle.resource_mgr.specs.Fetching.{clips_fetched}
 use Rattle.resource_mgr.specs.declared.lib_fault.LibFault.{LibFault}
 use Rattle.snd_status.specs.declared.status.Status.{Status}
 use Rattle.clip_decode.specs.Limits.{most_sound_bytes}
-use Rattle.snd_tools.specs.Commands.{Command, Mix, Info, Gen}
-use Rattle.snd_tools.specs.Laws.{AgreeFor, AgreeOn, AgreeOnSounds}
+use Rattle.snd_tools.specs.Commands.{Command, Mix, Info, Gen, Render}
+use Rattle.snd_tools.specs.Laws.{AgreeFor, AgreeOn, AgreeOnScene, AgreeOnSounds}
 use Rattle.snd_tools.specs.Outcome.{command_result, mix_outcome, rendered, rendered_to, rendering, only_line, survey_line}
 use Rattle.snd_tools.specs.Reading.{◌>>=◌, fetched_or_status, file_read, scene_read, sounds_read}
 use Rattle.snd_tools.proofs.NamedClips.{clips-same, clips-refused, clips-named, status-first}
@@ -44,10 +44,14 @@ module _ (a b : Files) where
       (λ s is. ap (λ r. r >>= λ xs. Ok (rendering s (mix s xs))) (sounds-same s.resources (sounds s is)))
       ∙ ap (λ file. scene_read scene file >>= λ s. sounds_read b s.resources >>= λ xs. Ok (rendering s (mix s xs))) agree
 
+  mix_outcome-same : (scene out : List ℕ) → AgreeOnScene a b scene → mix_outcome a scene out ≡ mix_outcome b scene out
+  mix_outcome-same scene out agree = ap (λ r. r >>= λ x. Ok (rendered_to out x)) (rendered-same scene agree.0 agree.1)
+
   pub outcome-same : (command : Command) → AgreeFor a b command → command_result a command ≡ command_result b command
-  outcome-same (Mix scene out) agree = ap (λ r. r >>= λ x. Ok (rendered_to out x)) (rendered-same scene agree.0 agree.1)
+  outcome-same (Mix scene out) agree = mix_outcome-same scene out agree
   outcome-same (Info file) agree = ap (λ content. (file_read most_sound_bytes file content >>= survey_line) >>= λ text. Ok (only_line text)) agree
   outcome-same (Gen number prefix) agree = refl
+  outcome-same (Render scene out workers) agree = mix_outcome-same scene out agree
 
   -- what SCENE is refused for
   pub scene-refused : (scene out : List ℕ) (status : Status) → AgreeOn a b scene → scene_read scene (get a scene) ≡ Err status → mix_outcome b scene out ≡ Err status

@@ -46,9 +46,17 @@ most_number_digits = 10
 abbrev pub most_number : ℕ
 most_number = 4294967295
 
+-- WORKERS of `render`
+abbrev pub most_workers_digits : ℕ
+most_workers_digits = 2
+
+abbrev pub most_workers : ℕ
+most_workers = 16
+
 -- The programs, each with commands of its own.
 pub data Program : Type 0 where
   Scenetool : Program
+  Scenerender : Program
 
 pub data Command : Type 0 where
   -- mix SCENE OUT
@@ -57,6 +65,8 @@ pub data Command : Type 0 where
   Info : List ℕ → Command
   -- gen NUMBER PREFIX
   Gen : ℕ → List ℕ → Command
+  -- render SCENE OUT WORKERS
+  Render : List ℕ → List ℕ → ℕ → Command
 
 -- The words after `mix`, or the place of the first word that doesn't fit. A missing or an extra word comes before the
 -- others, from left to right.
@@ -83,6 +93,21 @@ gen_words (word ∷ []) = Err 2
 gen_words (word ∷ prefix ∷ []) = gen_command (number most_number_digits most_number word) prefix
 gen_words (word ∷ prefix ∷ extra ∷ more) = Err 3
 
+-- the words after `render`, in the same way
+abbrev pub render_command : List ℕ → List ℕ → Option ℕ → Result Command ℕ
+render_command scene out None = Err 3
+render_command scene out (Some workers) = Ok (Render scene out workers)
+
+abbrev pub render_words : List (List ℕ) → Result Command ℕ
+render_words [] = Err 1
+render_words (scene ∷ []) = Err 2
+render_words (scene ∷ out ∷ []) = Err 3
+render_words (scene ∷ out ∷ word ∷ []) =
+    if is_path scene
+    then (if is_path out then render_command scene out (number most_workers_digits most_workers word) else Err 2)
+    else Err 1
+render_words (scene ∷ out ∷ word ∷ extra ∷ more) = Err 4
+
 -- the command of a program, or the place of the first word that doesn't fit
 abbrev pub command : Program → List (List ℕ) → Result Command ℕ
 command Scenetool [] = Err 0
@@ -91,3 +116,5 @@ command Scenetool (word ∷ words) =
     if bytes_eq word (codes "info") then info_words words else
     if bytes_eq word (codes "gen") then gen_words words else
     Err 0
+command Scenerender [] = Err 0
+command Scenerender (word ∷ words) = if bytes_eq word (codes "render") then render_words words else Err 0

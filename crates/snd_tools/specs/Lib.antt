@@ -4,6 +4,6 @@ pub mod Counts
 pub mod Laws
 pub mod Meets
 pub mod Outcome
+pub mod Prepared
 pub mod Printing
 pub mod Reading
-pub mod Rendered

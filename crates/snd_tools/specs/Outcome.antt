@@ -17,7 +17,7 @@ use Rattle.snd_status.specs.declared.mix_report.MixReport.{MixReport}
 use Rattle.snd_status.specs.declared.status.Status.{Status}
 use Rattle.snd_status.specs.declared.status.Status.TheVariants.{Usage}
 use Rattle.snd_status.specs.Texts.{mix_text, wave_text, status_text}
-use Rattle.snd_tools.specs.Commands.{Program, Command, Mix, Info, Gen, command}
+use Rattle.snd_tools.specs.Commands.{Program, Command, Mix, Info, Gen, Render, command}
 use Rattle.snd_tools.specs.Reading.{◌>>=◌, file_read, scene_read, sounds_read, surveyed}
 
 -- a file that is to be written
@@ -90,7 +90,7 @@ rendered files name = do
 abbrev pub rendered_to : List ℕ → Rendering → Report
 rendered_to out r = record { outputs = record { name = out; bytes = r.file } ∷ []; line = r.line }
 
--- `mix`: OUT is the WAVE file of the scene
+-- `mix`, and `render` with every number of workers: OUT is the WAVE file of the scene
 abbrev pub mix_outcome : Files → List ℕ → List ℕ → Result Report Status
 mix_outcome files scene out = do
   r ← rendered files scene
@@ -139,6 +139,7 @@ abbrev pub command_result : Files → Command → Result Report Status
 command_result files (Mix scene out) = mix_outcome files scene out
 command_result files (Info file) = info_outcome files file
 command_result files (Gen number prefix) = gen_outcome number prefix
+command_result files (Render scene out workers) = mix_outcome files scene out
 
 abbrev pub command_outcome : Files → Command → Outcome
 command_outcome files command = comes_to (command_result files command)

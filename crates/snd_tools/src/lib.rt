@@ -1,5 +1,5 @@
-//! The commands of `scenetool`, from words to a status, over any store of files and any sink of
-//! text. [`DiskDepot`] and [`TextOut`] are the system's files and streams.
+//! The commands of `scenetool` ([`run_tool`]) and of `scenerender` ([`run_render`]), from words to a status, over any
+//! store of files and any sink of text. [`DiskDepot`] and [`TextOut`] are the system's files and streams.
 #![tactic(auto)]
 
 mod command;
@@ -9,7 +9,12 @@ mod generating;
 mod info;
 mod laws;
 mod mix;
+mod prepared;
 mod printing;
+mod program;
+mod render;
+mod render_command;
+mod render_tool;
 mod rendering;
 mod text_out;
 mod tool;
@@ -17,6 +22,8 @@ mod words;
 
 pub use disk_depot::DiskDepot;
 pub use laws::{an_outcome_is_that_of_the_named_files, the_refusal_is_the_first};
+pub use program::{print_text, program_words};
+pub use render_tool::run_render;
 pub use snd_status::Status;
 pub use text_out::TextOut;
 pub use tool::run_tool;

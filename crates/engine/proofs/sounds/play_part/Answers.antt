@@ -3,7 +3,8 @@ use borrow.Rule.Slice.PartMut.{put_mid}
 use Rattle.mix_fixed.specs.Sound.{Is24}
 use Rattle.mix_fixed.specs.Kernels.{at}
 use Rattle.scene_clips.specs.ClipFrames.{clip_length}
-use Rattle.engine.proofs.Middle.{mid_inside, mid_long, mid_samples, silent_at, silence_is_24}
+use Rattle.engine.proofs.Middle.{mid_long, mid_samples, silent_at, silence_is_24}
+use Rattle.scene_clips.proofs.Middle.{mid_inside}
 use Rattle.engine.proofs.PlayedParts.{run_heard, silence_heard}
 use Rattle.engine.proofs.sounds.play_part.Goals as goal
 

@@ -1,0 +1,189 @@
+//! The file that a scene is rendered to, written in pieces.
+
+ghost use Rattle.std.specs.Prelude.{◌≡◌, ◌<◌, ◌≤◌, ◌++◌, ℕ, List, None, Some, IsSome, length, IfOk};
+ghost use Rattle.mix_model.specs.Mix.{clips_of, frames_from};
+ghost use Rattle.mix_model.specs.Output.{padding, wav};
+ghost use Rattle.mix_model.specs.Rendering.{data_of, summary_of};
+ghost use Rattle.snd_io.specs.Answers.{put_failed};
+ghost use Rattle.snd_io.specs.Faults.{CountsFaults};
+ghost use Rattle.snd_io.specs.Runs.{GrowsBy, RunOfAppends, SetsFile};
+ghost use Rattle.wave_write.specs.Header.{data_bytes};
+ghost use Rattle.engine.specs.Rendering.{frames_before};
+ghost use Rattle.engine.specs.RunAnswers.{answer_of, fault_answer};
+ghost use Rattle.engine.specs.Span.{node_places};
+
+use crate::feeds::NODE_PLACES;
+use crate::renderer::Renderer;
+use crate::run_fault::RunFault;
+use mix_model::{Summary, is_padded, scene_header};
+use plain_data::OutOfMemory;
+use scene_model::Scene;
+use snd_io::{Depot, Gate, Put};
+use std::alloc::Global;
+use wave_write::pack;
+
+/// Sets OUT to the WAVE file of a scene whose renderer stands at its first frame. The gate is called before
+/// and after each block.
+pub(crate) fn write_out<D: Depot, G: Gate>(
+    alloc: Global,
+    scene: &Scene,
+    renderer: &mut Renderer,
+    depot: &mut D,
+    out: &str,
+    gate: &G,
+) -> Result<Summary, RunFault>
+    requires scene { renderer.old.scene ≡ scene.now }
+    requires start { renderer.old.clock ≡ 0 }
+    requires fresh { renderer.old.next ≡ None }
+    requires closed { D.writing depot.old ≡ None }
+    ensures after { let frames = frames_from (clips_of scene.now renderer.old.files) scene.now 0 scene.now.length in
+        SetsFile (answer_of result) out.now (wav scene.now frames) (D.files depot.old) (D.files depot.new) }
+    ensures closed { D.writing depot.new ≡ None }
+    ensures cause { CountsFaults (D.faults depot.old) (D.faults depot.new) (put_failed (answer_of result)) }
+    ensures summary { let frames = frames_from (clips_of scene.now renderer.old.files) scene.now 0 scene.now.length in
+        IfOk result (λ summary. summary ≡ summary_of scene.now frames) }
+{
+    done(depot.create(alloc, out))?;
+    let summary = append_wav(alloc, scene, renderer, depot, gate)?;
+    done(depot.finish())?;
+    Ok(summary)
+}
+
+/// Appends the header, the frames and the pad byte if there is one to the open file. Where it stops, no file
+/// is open.
+fn append_wav<D: Depot, G: Gate>(
+    alloc: Global,
+    scene: &Scene,
+    renderer: &mut Renderer,
+    depot: &mut D,
+    gate: &G,
+) -> Result<Summary, RunFault>
+    requires scene { renderer.old.scene ≡ scene.now }
+    requires start { renderer.old.clock ≡ 0 }
+    requires fresh { renderer.old.next ≡ None }
+    requires writing { IsSome (D.writing depot.old) }
+    ensures after { (name : List ℕ) → D.writing depot.old ≡ Some name →
+        RunOfAppends (answer_of result) name (wav scene.now (frames_from (clips_of scene.now renderer.old.files) scene.now 0 scene.now.length))
+        (D.files depot.old) (D.files depot.new) (D.writing depot.new) }
+    ensures cause { CountsFaults (D.faults depot.old) (D.faults depot.new) (put_failed (answer_of result)) }
+    ensures summary { let frames = frames_from (clips_of scene.now renderer.old.files) scene.now 0 scene.now.length in
+        IfOk result (λ summary. summary ≡ summary_of scene.now frames) }
+{
+    append(alloc, depot, &scene_header(scene))?;
+    let summary = append_blocks(alloc, scene, renderer, depot, gate)?;
+    append_padding(alloc, scene, depot)?;
+    Ok(summary)
+}
+
+/// Appends all frames, block by block.
+fn append_blocks<D: Depot, G: Gate>(
+    alloc: Global,
+    scene: &Scene,
+    renderer: &mut Renderer,
+    depot: &mut D,
+    gate: &G,
+) -> Result<Summary, RunFault>
+    requires scene { renderer.old.scene ≡ scene.now }
+    requires start { renderer.old.clock ≡ 0 }
+    requires fresh { renderer.old.next ≡ None }
+    requires writing { IsSome (D.writing depot.old) }
+    ensures after { (name : List ℕ) → D.writing depot.old ≡ Some name →
+        RunOfAppends (answer_of result) name (data_of scene.now (frames_from (clips_of scene.now renderer.old.files) scene.now 0 scene.now.length))
+        (D.files depot.old) (D.files depot.new) (D.writing depot.new) }
+    ensures cause { CountsFaults (D.faults depot.old) (D.faults depot.new) (put_failed (answer_of result)) }
+    ensures summary { let frames = frames_from (clips_of scene.now renderer.old.files) scene.now 0 scene.now.length in
+        IfOk result (λ summary. summary ≡ summary_of scene.now frames) }
+{
+    let mut samples = [0i32; NODE_PLACES];
+    let mut bytes = Vec::new(alloc);
+    let mut summary = Summary::empty();
+    let mut number = 0u32;
+    while renderer.clock() < scene.length {
+        gate.before_block(number);
+        match next_block(alloc, scene, renderer, &mut samples, &mut bytes, summary) {
+            Ok(more) => summary = more,
+            Err(OutOfMemory) => return Err(without_memory(depot)),
+        }
+        append(alloc, depot, bytes.as_slice())?;
+        gate.after_block(number);
+        number += 1;
+    }
+    Ok(summary)
+}
+
+/// Renders the next block, and packs its samples. Answers the summary with it.
+fn next_block(
+    alloc: Global,
+    scene: &Scene,
+    renderer: &mut Renderer,
+    samples: &mut [i32],
+    bytes: &mut Vec<u8>,
+    summary: Summary,
+) -> Result<Summary, OutOfMemory>
+    requires scene { renderer.old.scene ≡ scene.now }
+    requires fresh { renderer.old.next ≡ None }
+    requires left { renderer.old.clock < scene.now.length }
+    requires room { length samples.old ≡ node_places }
+    ensures next { IfOk result (λ _. renderer.new ≡ record renderer.old { clock = renderer.new.clock }) }
+    ensures later { IfOk result (λ _. renderer.old.clock < renderer.new.clock) }
+    ensures within { IfOk result (λ _. renderer.new.clock ≤ scene.now.length) }
+    ensures bytes { IfOk result (λ _. data_of scene.now (frames_before scene.now renderer.old.files renderer.new.clock)
+        ≡ data_of scene.now (frames_before scene.now renderer.old.files renderer.old.clock) ++ bytes.new.items) }
+    ensures summary { summary ≡ summary_of scene.now (frames_before scene.now renderer.old.files renderer.old.clock) →
+        IfOk result (λ next. next ≡ summary_of scene.now (frames_before scene.now renderer.old.files renderer.new.clock)) }
+{
+    let frames = renderer.step();
+    let out = &mut samples[..frames as usize * usize::from(scene.channels)];
+    renderer.block(out);
+    bytes.clear();
+    pack(alloc, out, scene.width, bytes)?;
+    Ok(summary.extended(out, bytes.as_slice()))
+}
+
+/// Appends what follows the frames: a zero byte where the data have an odd size (RIFF WAVE), and nothing, with
+/// no call of the store, where they have an even one.
+fn append_padding<D: Depot>(alloc: Global, scene: &Scene, depot: &mut D) -> Result<(), RunFault>
+    requires writing { IsSome (D.writing depot.old) }
+    ensures after { (name : List ℕ) → D.writing depot.old ≡ Some name →
+        RunOfAppends (answer_of result) name (padding (data_bytes scene.now.channels scene.now.width scene.now.length))
+        (D.files depot.old) (D.files depot.new) (D.writing depot.new) }
+    ensures cause { CountsFaults (D.faults depot.old) (D.faults depot.new) (put_failed (answer_of result)) }
+{
+    if is_padded(scene) {
+        append(alloc, depot, &[0])
+    } else {
+        Ok(())
+    }
+}
+
+/// Appends bytes to the open file. Where it stops, no file is open.
+fn append<D: Depot>(alloc: Global, depot: &mut D, bytes: &[u8]) -> Result<(), RunFault>
+    requires writing { IsSome (D.writing depot.old) }
+    ensures after { (name : List ℕ) → D.writing depot.old ≡ Some name →
+        RunOfAppends (answer_of result) name bytes.now (D.files depot.old) (D.files depot.new) (D.writing depot.new) }
+    ensures cause { CountsFaults (D.faults depot.old) (D.faults depot.new) (put_failed (answer_of result)) }
+{
+    done(depot.append(alloc, bytes))
+}
+
+/// Ends the open file where there is no memory for more of it. The fault is want of memory, or that of the
+/// store where this fails.
+fn without_memory<D: Depot>(depot: &mut D) -> RunFault
+    requires writing { IsSome (D.writing depot.old) }
+    ensures files { D.files depot.new ≡ D.files depot.old }
+    ensures closed { D.writing depot.new ≡ None }
+    ensures cause { CountsFaults (D.faults depot.old) (D.faults depot.new) (put_failed (fault_answer result)) }
+{
+    match depot.finish() {
+        Put::Failed => RunFault::DepotFault,
+        Put::Done | Put::OutOfMemory => RunFault::OutOfMemory,
+    }
+}
+
+/// What a store answered, as a result.
+fn done(put: Put) -> Result<(), RunFault>
+    ensures { answer_of result ≡ put }
+{
+    put.into_result()?;
+    Ok(())
+}

@@ -1,0 +1,12 @@
+mod Chained
+mod Colons
+mod Cuts
+mod DelayLemmas
+mod FadeGains
+mod Lines
+mod Made
+mod Numerals
+mod Samples
+mod Slopes
+mod Values
+mod Written

@@ -1,1 +1,5 @@
 pub mod JobList
+pub mod Queues
+pub mod Rule
+pub mod Rings
+pub mod Steps

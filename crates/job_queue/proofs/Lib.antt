@@ -1,0 +1,5 @@
+pub mod Rows
+pub mod RingSteps
+pub mod Kept
+pub mod Refused
+pub mod RuleLaws

@@ -9,8 +9,7 @@ use Rattle.std.proofs.lemmas.List.Sorted.{IsPermutation-refl, IsPermutation-sym,
 use Rattle.std.proofs.lemmas.List.Sums.{sum_by-cons, sum_by-append, length-filter, count_by-le-length}
 use Rattle.std.proofs.lemmas.Option.{slice_get_past}
 use Rattle.scene_model.specs.declared.bus.Bus.{Bus}
-use Rattle.node_graph.specs.Attached.{leads_to, is_attached, attached}
-use Rattle.node_graph.specs.InputData.{InputData, count_of, IsListOf}
+use Rattle.node_graph.specs.Attached.{leads_to, is_attached, attached, count_of}
 
 abbrev pub one_if : Bool → ℕ
 one_if b = if b then 1 else 0
@@ -21,10 +20,10 @@ count-cons k x xs = sum_by-cons (λ (y : ℕ). cond (y == k) 1 0) x xs
 pub count-append : (k : ℕ) (xs ys : List ℕ) → count_of k (xs ++ ys) ≡ count_of k xs + count_of k ys
 count-append k xs ys = sum_by-append (λ (y : ℕ). cond (y == k) 1 0) xs ys
 
-one_more : (k x : ℕ) (xs : List ℕ) → (x == k) ≡ true → count_of k (x ∷ xs) ≡ 1 + count_of k xs
+pub one_more : (k x : ℕ) (xs : List ℕ) → (x == k) ≡ true → count_of k (x ∷ xs) ≡ 1 + count_of k xs
 one_more k x xs e = count-cons k x xs ∙ ap (λ (b : Bool). cond b 1 0 + count_of k xs) e
 
-no_more : (k x : ℕ) (xs : List ℕ) → (x == k) ≡ false → count_of k (x ∷ xs) ≡ count_of k xs
+pub no_more : (k x : ℕ) (xs : List ℕ) → (x == k) ≡ false → count_of k (x ∷ xs) ≡ count_of k xs
 no_more k x xs e =
     let c = count-cons k x xs ∙ ap (λ (b : Bool). cond b 1 0 + count_of k xs) e in omega arith
 
@@ -118,14 +117,14 @@ count-attached buses node k = by_test (is_attached buses node k) refl
         ∙ count-range k 0 (length buses) (omega arith) (let within = attached_within buses node k e in omega arith)
     by_test false e = count-filter_no (is_attached buses node) k (range_with_len 0 (length buses)) e
 
--- the list of an input is the list of the attached buses in another order
-pub listed : (buses : List Bus) (node : ℕ) (input : InputData) → IsListOf buses node input → IsPermutation (attached buses node) input.numbers
-listed buses node input w =
-    permuted (attached buses node) input.numbers (λ k. count-attached buses node k ∙ sym (w.each_once k))
+-- numbers that are those of the attached buses, each once, are those in another order
+pub listed : (buses : List Bus) (node : ℕ) (numbers : List ℕ) → ((k : ℕ) → count_of k numbers ≡ one_if (is_attached buses node k)) → IsPermutation (attached buses node) numbers
+listed buses node numbers each =
+    permuted (attached buses node) numbers (λ k. count-attached buses node k ∙ sym (each k))
 
 pub length-attached : (buses : List Bus) (node : ℕ) → length (attached buses node) ≤ length buses
 length-attached buses node =
     omega (arith, length-filter (is_attached buses node) (range_with_len 0 (length buses)), count_by-le-length (is_attached buses node) (range_with_len 0 (length buses)), length-range_with_len 0 (length buses))
 
-pub length-listed : (buses : List Bus) (node : ℕ) (input : InputData) → IsListOf buses node input → length input.numbers ≡ length (attached buses node)
-length-listed buses node input w = length_permutation (attached buses node) input.numbers (listed buses node input w)
+pub length-listed : (buses : List Bus) (node : ℕ) (numbers : List ℕ) → ((k : ℕ) → count_of k numbers ≡ one_if (is_attached buses node k)) → length numbers ≡ length (attached buses node)
+length-listed buses node numbers each = length_permutation (attached buses node) numbers (listed buses node numbers each)

@@ -1,6 +1,12 @@
 pub mod BoardWords
+pub mod Changes
 pub mod Counting
+pub mod Feeds
 pub mod Gathered
 pub mod ListsKept
 pub mod OneOutput
+pub mod Scanned
+pub mod StageVisits
+pub mod Taken
+pub mod Walked
 pub mod Wired

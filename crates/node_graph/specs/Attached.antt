@@ -1,5 +1,5 @@
 -- The buses that are attached to a node, by their numbers.
-use Rattle.std.specs.Prelude.{ℕ, Bool, false, ◌==◌, List, length, filter, slice_get}
+use Rattle.std.specs.Prelude.{ℕ, Bool, false, ◌==◌, List, length, filter, slice_get, count_by}
 use Rattle.std.specs.List.{range_with_len}
 use Rattle.std.specs.Option.{option_map_or}
 use Rattle.scene_model.specs.declared.bus.Bus.{Bus}
@@ -15,3 +15,7 @@ is_attached buses node number = option_map_or (leads_to node) (slice_get buses n
 -- the numbers of the buses that are attached to that node, each once, in order
 abbrev pub attached : List Bus → ℕ → List ℕ
 attached buses node = filter (is_attached buses node) (range_with_len 0 (length buses))
+
+-- how often a number stands in a list
+abbrev pub count_of : ℕ → List ℕ → ℕ
+count_of number numbers = count_by (λ x. x == number) numbers

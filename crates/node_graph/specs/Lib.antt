@@ -1,4 +1,5 @@
 pub mod Attached
 pub mod Board
-pub mod InputData
 pub mod ListChanges
+pub mod ListData
+pub mod Walks

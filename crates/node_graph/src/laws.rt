@@ -1,9 +1,8 @@
 //! Laws of stages. The functions do nothing.
 
 ghost use Rattle.std.specs.Prelude.{◌≡◌, ◌+◌, ◌*◌, ℕ, length, if◌then◌else◌};
-ghost use Rattle.node_graph.specs.Attached.{attached, is_attached};
+ghost use Rattle.node_graph.specs.Attached.{attached, count_of, is_attached};
 ghost use Rattle.node_graph.specs.Board.{board};
-ghost use Rattle.node_graph.specs.InputData.{count_of};
 
 use scene_model::{Bus, Plan};
 

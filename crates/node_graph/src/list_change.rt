@@ -4,15 +4,16 @@ ghost use Rattle.std.specs.Prelude.{◌≡◌, ◌≤◌, length};
 ghost use Rattle.scene_model.specs.Limits as limits;
 ghost use Rattle.node_graph.specs.ListChanges as spec;
 
+use crate::feed::Feed;
 use scene_model::{Bus, Edit, target};
 
 /// A change of one list.
 #[derive(Clone, Copy)]
 pub(crate) enum ListChange {
-    /// The bus of that number is added to the list of the node `to`.
-    Added { bus: u32, to: u32 },
-    /// The bus of that number is removed from the list of the node `from`.
-    Removed { bus: u32, from: u32 },
+    /// A bus is attached to the node `to`.
+    Attached { feed: Feed, to: u32 },
+    /// The bus of that number is detached from the node `from`.
+    Detached { bus: u32, from: u32 },
     /// No list changes.
     Unchanged,
 }
@@ -24,12 +25,15 @@ pub(crate) fn list_change(buses: &[Bus], edit: &Edit) -> ListChange
 {
     match *edit {
         Edit::Attach { node, out, to } => match number_of(buses, node, out) {
-            Some(bus) => ListChange::Added { bus, to },
+            Some(bus) => ListChange::Attached {
+                feed: Feed { bus, node, out },
+                to,
+            },
             None => ListChange::Unchanged,
         },
         Edit::Detach { node, out } => {
             match (number_of(buses, node, out), target(buses, node, out)) {
-                (Some(bus), Some(from)) => ListChange::Removed { bus, from },
+                (Some(bus), Some(from)) => ListChange::Detached { bus, from },
                 _ => ListChange::Unchanged,
             }
         }

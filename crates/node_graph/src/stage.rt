@@ -5,31 +5,35 @@ ghost use Rattle.scene_model.specs.Plans.{after, is_sound, reply};
 ghost use Rattle.node_graph.specs.Attached.{attached};
 ghost use Rattle.node_graph.specs.Board.{board};
 
-use crate::attached_buses::AttachedBuses;
+use crate::attached::write_attached;
 use crate::board::word;
+use crate::input_list::InputList;
 use crate::inputs::{change, inputs_of};
 use crate::list_change::list_change;
 use plain_data::OutOfMemory;
 use scene_model::{Edit, Plan, Reply, Scene, apply};
 use std::alloc::Global;
+use std::fmt;
+use std::fmt::{Debug, Formatter};
 use std::marker::Model;
 
-/// A plan with a list for each input of the buses that are attached to it. Contracts see the plan.
-#[derive(Debug, Drop)]
+/// A plan with a linked list for each input of the buses that are attached to it. Contracts see the
+/// plan.
+#[derive(Drop)]
 pub struct Stage {
     plan: Plan,
-    inputs: Vec<AttachedBuses>,
+    inputs: Vec<InputList>,
 }
 
 impl Model for Stage {
     ghost use Rattle.scene_model.specs.PlanData.{PlanData};
-    ghost use Rattle.node_graph.specs.InputData.{AreListsOf};
+    ghost use Rattle.node_graph.specs.ListData.{AreInputsOf};
 
     ghost Value = { PlanData };
 
     ghost view = { λ s. s.plan };
 
-    ghost invariant = { λ s. AreListsOf s.plan s.inputs.items };
+    ghost invariant = { λ s. AreInputsOf s.plan s.inputs.items };
 }
 
 impl Stage {
@@ -97,6 +101,19 @@ impl Stage {
         ensures rest { drop result into.new ≡ drop result into.old }
         ensures plan { self.new ≡ self.old }
     {
-        self.inputs[node as usize].write_to(into)
+        let buses = self.plan.buses();
+        let input = &mut self.inputs[node as usize];
+        if buses.is_empty() || !input.is_kept() {
+            return write_attached(buses, node, into) as u32;
+        }
+        input.visit(into) as u32
+    }
+}
+
+impl Debug for Stage {
+    fn fmt<W: fmt::Write>(&self, f: &mut Formatter<W>) -> fmt::Result {
+        f.debug_struct("Stage")
+            .field("plan", &self.plan)
+            .finish_non_exhaustive()
     }
 }

@@ -111,7 +111,8 @@ fn make_edits<R: Abort>(rt: &R, stage: &mut Stage, plan: &mut Plan, edits: &[(Ed
     }
 }
 
-/// Asserts that these are the numbers of the buses that are attached to the endpoint.
+/// Asserts that these are the numbers of the buses that are attached to the endpoint, and that they
+/// come a second time as they came first.
 fn assert_endpoint<R: Abort>(
     rt: &R,
     alloc: Global,
@@ -120,28 +121,39 @@ fn assert_endpoint<R: Abort>(
     numbers: &[u32],
 ) -> Result<(), OutOfMemory>
     requires { stage.old ≡ plan.now }
+    ensures { stage.new ≡ plan.now }
 {
     let endpoint = plan.nodes().len() as u32;
     assert!(rt; has_input(plan, endpoint));
-    let mut visited = visited(alloc, stage, plan, endpoint)?;
-    visited.sort()?;
-    assert_eq!(rt; visited.as_slice(), numbers);
+    let mut first = visited(alloc, stage, plan, endpoint)?;
+    let second = visited(alloc, stage, plan, endpoint)?;
+    assert_eq!(rt; first.as_slice(), second.as_slice());
+    first.sort()?;
+    assert_eq!(rt; first.as_slice(), numbers);
     Ok(())
+}
+
+/// Makes each kind of edit in a stage that is wired by these rows, and in its plan.
+fn make_each_kind<R: Abort>(rt: &R, alloc: Global, rows: &[BusRow]) -> Result<(), OutOfMemory> {
+    let scene = scene(alloc, &[SOUND, NodeKind::Group, SPLITTER], rows)?;
+    let mut stage = Stage::open(alloc, &scene)?;
+    let mut plan = Plan::opening(alloc, &scene)?;
+    assert_endpoint(rt, alloc, &mut stage, &plan, &[1])?;
+    make_edits(rt, &mut stage, &mut plan, &EDITS);
+    assert_dials(rt, &stage, &plan, &BOARD);
+    assert_endpoint(rt, alloc, &mut stage, &plan, &[1, 2])
 }
 
 #[test]
 fn the_board_after_each_kind_of_edit(rt: HostRuntime) -> Result<(), Fail> {
-    let rows = [
+    let mut rows = [
         row(0, 0, Some(1), 65536),
         row(1, 0, Some(3), 32768),
         row(2, 1, None, 1),
     ];
-    let scene = scene(rt.alloc(), &[SOUND, NodeKind::Group, SPLITTER], &rows)?;
-    let mut stage = Stage::open(rt.alloc(), &scene)?;
-    let mut plan = Plan::opening(rt.alloc(), &scene)?;
-    make_edits(&rt, &mut stage, &mut plan, &EDITS);
-    assert_dials(&rt, &stage, &plan, &BOARD);
-    assert_endpoint(&rt, rt.alloc(), &mut stage, &plan, &[1, 2])?;
+    make_each_kind(&rt, rt.alloc(), &rows)?;
+    rows.reverse();
+    make_each_kind(&rt, rt.alloc(), &rows)?;
     Ok(())
 }
 
@@ -202,7 +214,7 @@ fn compare<R: Abort>(
     Ok(())
 }
 
-/// Makes that many edits in both and compares them after every 64th. Answers how many were done.
+/// Makes many edits in both and compares them after every 16th. Answers how many were done.
 fn make_many<R: Abort>(
     rt: &R,
     alloc: Global,
@@ -213,20 +225,20 @@ fn make_many<R: Abort>(
 {
     let mut done = 0;
     let mut number = 1;
-    for turn in 0..4096u32 {
+    for turn in 0..20_000u32 {
         number = next(number);
         if edit_both(rt, stage, plan, &edit_of(number)) == Some(Reply::Done) {
             done += 1;
         }
-        if turn % 64 == 0 {
+        if turn % 16 == 0 {
             compare(rt, alloc, stage, plan)?;
         }
     }
     Ok(done)
 }
 
-#[test]
-fn a_stage_and_its_plan_stay_the_same(rt: HostRuntime) -> Result<(), Fail> {
+/// Makes many edits in a stage that is wired by these rows, and in its plan.
+fn make_many_from<R: Abort>(rt: &R, alloc: Global, rows: &[BusRow]) -> Result<(), OutOfMemory> {
     let kinds = [
         SOUND,
         SOUND,
@@ -235,11 +247,49 @@ fn a_stage_and_its_plan_stay_the_same(rt: HostRuntime) -> Result<(), Fail> {
         SPLITTER,
         SPLITTER,
     ];
-    let scene = scene(rt.alloc(), &kinds, &[row(0, 0, Some(2), 65536)])?;
-    let mut stage = Stage::open(rt.alloc(), &scene)?;
-    let mut plan = Plan::opening(rt.alloc(), &scene)?;
-    let done = make_many(&rt, rt.alloc(), &mut stage, &mut plan)?;
-    assert!(rt; done > 1000);
+    let scene = scene(alloc, &kinds, rows)?;
+    let mut stage = Stage::open(alloc, &scene)?;
+    let mut plan = Plan::opening(alloc, &scene)?;
+    let done = make_many(rt, alloc, &mut stage, &mut plan)?;
+    assert!(rt; done > 5000);
+    Ok(())
+}
+
+#[test]
+fn a_stage_and_its_plan_stay_the_same(rt: HostRuntime) -> Result<(), Fail> {
+    let mut rows = [
+        row(0, 0, Some(2), 65536),
+        row(2, 0, Some(6), 65536),
+        row(4, 1, Some(6), 65536),
+    ];
+    make_many_from(&rt, rt.alloc(), &rows)?;
+    rows.reverse();
+    make_many_from(&rt, rt.alloc(), &rows)?;
+    Ok(())
+}
+
+/// Compares the opening stage of a scene with its plan.
+fn compare_opening<R: Abort>(
+    rt: &R,
+    alloc: Global,
+    kinds: &[NodeKind],
+    rows: &[BusRow],
+) -> Result<(), OutOfMemory> {
+    let scene = scene(alloc, kinds, rows)?;
+    let mut stage = Stage::open(alloc, &scene)?;
+    let plan = Plan::opening(alloc, &scene)?;
+    compare(rt, alloc, &mut stage, &plan)
+}
+
+#[test]
+fn a_stage_of_no_bus_and_one_of_all_buses(rt: HostRuntime) -> Result<(), Fail> {
+    compare_opening(&rt, rt.alloc(), &[], &[])?;
+    let kinds = [NodeKind::Splitter { outputs: 4 }; 64];
+    let mut rows = Vec::new(rt.alloc());
+    for number in 0..256u32 {
+        rows.push(row(number / 4, (number % 4) as u8, Some(64), 65536))?;
+    }
+    compare_opening(&rt, rt.alloc(), &kinds, &rows)?;
     Ok(())
 }
 

@@ -1,46 +1,54 @@
-use Rattle.std.proofs.Common.{◌≡◌, ℕ, ◌≤◌, List, get_or, length, take, drop, sym, ◌∙◌, ap, subst, arith}
+use Rattle.std.proofs.Common.{◌≡◌, ℕ, ◌≤◌, true, false, List, length, take, sym, ◌∙◌, ap, subst, arith}
 use Rattle.std.specs.Prelude.{IsPermutation}
-use Rattle.std.proofs.lemmas.List.{get_or_default}
-use Rattle.std.proofs.Math.Seq.{take-append_seam}
+use Rattle.std.specs.Option.{option_map_or}
+use Rattle.scene_model.specs.declared.bus.Bus.{Bus}
 use Rattle.scene_model.specs.PlanData.{PlanData}
-use Rattle.node_graph.specs.Attached.{attached}
-use Rattle.node_graph.specs.InputData.{InputData, no_input, IsListOf, AreListsOf}
-use Rattle.node_graph.proofs.Counting.{listed, length-attached, length-listed}
+use Rattle.node_graph.specs.Attached.{attached, is_attached, count_of}
+use Rattle.node_graph.specs.ListData.{AreInputsOf, is_kept}
+use Rattle.node_graph.proofs.Counting.{one_if, length-attached}
+use Rattle.node_graph.proofs.StageVisits.{written, list_written}
 use Rattle.node_graph.proofs.stage.Stage.visit.Goals as goal
 
--- the list that is read for a node is the list of that node
-list_read : (p q : PlanData) (inputs : List InputData) (node : ℕ) (input : InputData) → p ≡ q → AreListsOf p inputs → node ≤ length q.nodes → input ≡ get_or inputs node input → IsListOf q.buses node input
-list_read p q inputs node input same w within read =
-    let here : AreListsOf q inputs = subst (λ (r : PlanData). AreListsOf r inputs) same w in
-    let one = here.one_each in
-    subst (λ (i : InputData). IsListOf q.buses node i) (sym (read ∙ get_or_default inputs node input no_input (omega arith))) (here.each_is node within)
+-- the same plan has the same buses
+scanned : (p q : PlanData) (buses : List Bus) (node count : ℕ) (into new : List ℕ) → buses ≡ p.buses → p ≡ q → count ≤ length into → length new ≡ length into → ((k : ℕ) → count_of k (take count new) ≡ one_if (is_attached buses node k)) → (count ≡ length (attached q.buses node)) × IsPermutation (attached q.buses node) (take count new)
+scanned p q buses node count into new same is within long each =
+    written q.buses node count into new within long
+    (subst (λ (bs : List Bus). (k : ℕ) → count_of k (take count new) ≡ one_if (is_attached bs node k)) (same ∙ ap (λ (r : PlanData). r.buses) is) each)
 
-few_buses : (p q : PlanData) (inputs : List InputData) → p ≡ q → AreListsOf p inputs → length q.buses ≤ 256
-few_buses p q inputs same w = subst (λ (r : PlanData). length r.buses ≤ 256) same w.few
-
-pub write_to-requires-clause-room : goal.write_to-requires-clause-room
-write_to-requires-clause-room c =
+pub overflow_cast-result : goal.overflow_cast-result
+overflow_cast-result c =
     let q = c.args.self.now in
-    let list = list_read c.self.inside.plan q c.self.inside.inputs.items c.args.node c.index.result.now c.self.view_is c.self.invariant c.requires.node c.index.ensures in
-    let room = c.requires.room in
-    omega (arith, length-listed q.buses c.args.node c.index.result.now list, length-attached q.buses c.args.node)
+    let few = c.buses-buses.ensures.plan.buses_most in
+    let count = (scanned c.self.inside.plan q c.buses-buses.result.now c.args.node c.write_attached.result c.args.into.now c.write_attached.new.into c.buses-buses.ensures.value c.self.view_is c.write_attached.ensures.count c.write_attached.auto.into c.write_attached.ensures.each).0 in
+    omega (arith, length-attached q.buses c.args.node, ap (λ (r : PlanData). length r.buses) c.self.view_is)
 
-pub write_to-requires-clause-few : goal.write_to-requires-clause-few
-write_to-requires-clause-few c =
+pub returns-then-is_empty-clause-count : goal.returns-then-is_empty-clause-count
+returns-then-is_empty-clause-count c =
+    (scanned c.self.inside.plan c.args.self.now c.buses-buses.result.now c.args.node c.write_attached.result c.args.into.now c.write_attached.new.into c.buses-buses.ensures.value c.self.view_is c.write_attached.ensures.count c.write_attached.auto.into c.write_attached.ensures.each).0
+
+pub returns-then-is_empty-clause-written : goal.returns-then-is_empty-clause-written
+returns-then-is_empty-clause-written c =
+    (scanned c.self.inside.plan c.args.self.now c.buses-buses.result.now c.args.node c.write_attached.result c.args.into.now c.write_attached.new.into c.buses-buses.ensures.value c.self.view_is c.write_attached.ensures.count c.write_attached.auto.into c.write_attached.ensures.each).1
+
+pub overflow_cast-result-2 : goal.overflow_cast-result-2
+overflow_cast-result-2 c =
     let q = c.args.self.now in
-    let list = list_read c.self.inside.plan q c.self.inside.inputs.items c.args.node c.index.result.now c.self.view_is c.self.invariant c.requires.node c.index.ensures in
-    omega (arith, length-listed q.buses c.args.node c.index.result.now list, length-attached q.buses c.args.node, few_buses c.self.inside.plan q c.self.inside.inputs.items c.self.view_is c.self.invariant)
+    let are : AreInputsOf q c.self.inside.inputs.items = subst (λ (r : PlanData). AreInputsOf r c.self.inside.inputs.items) c.self.view_is c.self.invariant in
+    let kept : option_map_or is_kept c.index_mut-input.result.now false ≡ true = sym c.is_kept.ensures ∙ c.if-not-is_kept.false in
+    let few = c.buses-buses.ensures.plan.buses_most in
+    let count = (list_written q c.self.inside.inputs.items c.args.node c.visit.result c.index_mut-input.result.now c.args.into.now c.visit.new.into are c.requires.node c.requires.input c.index_mut-input.ensures.value kept c.visit.ensures.listed c.visit.ensures.count c.visit.auto.into).0 in
+    omega (arith, length-attached q.buses c.args.node, ap (λ (r : PlanData). length r.buses) c.self.view_is)
 
 pub returns-clause-count : goal.returns-clause-count
 returns-clause-count c =
     let q = c.args.self.now in
-    let list = list_read c.self.inside.plan q c.self.inside.inputs.items c.args.node c.index.result.now c.self.view_is c.self.invariant c.requires.node c.index.ensures in
-    c.write_to.ensures.count ∙ length-listed q.buses c.args.node c.index.result.now list
+    let are : AreInputsOf q c.self.inside.inputs.items = subst (λ (r : PlanData). AreInputsOf r c.self.inside.inputs.items) c.self.view_is c.self.invariant in
+    let kept : option_map_or is_kept c.index_mut-input.result.now false ≡ true = sym c.is_kept.ensures ∙ c.if-not-is_kept.false in
+    (list_written q c.self.inside.inputs.items c.args.node c.visit.result c.index_mut-input.result.now c.args.into.now c.visit.new.into are c.requires.node c.requires.input c.index_mut-input.ensures.value kept c.visit.ensures.listed c.visit.ensures.count c.visit.auto.into).0
 
 pub returns-clause-written : goal.returns-clause-written
 returns-clause-written c =
     let q = c.args.self.now in
-    let numbers = c.index.result.now.numbers in
-    let list = list_read c.self.inside.plan q c.self.inside.inputs.items c.args.node c.index.result.now c.self.view_is c.self.invariant c.requires.node c.index.ensures in
-    let front : take c.write_to.result c.write_to.new.into ≡ numbers = ap (λ n. take n c.write_to.new.into) c.write_to.ensures.count ∙ ap (take (length numbers)) c.write_to.ensures.written ∙ take-append_seam numbers (drop (length numbers) c.args.into.now) in
-    subst (λ (ns : List ℕ). IsPermutation (attached q.buses c.args.node) ns) (sym front) (listed q.buses c.args.node c.index.result.now list)
+    let are : AreInputsOf q c.self.inside.inputs.items = subst (λ (r : PlanData). AreInputsOf r c.self.inside.inputs.items) c.self.view_is c.self.invariant in
+    let kept : option_map_or is_kept c.index_mut-input.result.now false ≡ true = sym c.is_kept.ensures ∙ c.if-not-is_kept.false in
+    (list_written q c.self.inside.inputs.items c.args.node c.visit.result c.index_mut-input.result.now c.args.into.now c.visit.new.into are c.requires.node c.requires.input c.index_mut-input.ensures.value kept c.visit.ensures.listed c.visit.ensures.count c.visit.auto.into).1

@@ -22,6 +22,7 @@ use Rattle.mix_model.specs.Mix.{kind_frames, node_frames}
 use Rattle.mix_model.specs.OrderedBuses.{IsOrdered}
 use Rattle.mix_model.specs.Pulled.{no_node, node}
 use Rattle.mix_model.proofs.ScenePlans.{nodes_run}
+use Rattle.resource_mgr.specs.Tapes.{files_of}
 use Rattle.engine.specs.declared.playback.Playback.{Playback}
 use Rattle.engine.specs.declared.room.Room.{Room}
 use Rattle.engine.specs.Nodes.{IsOrderOf, IsPlayable}
@@ -85,10 +86,10 @@ room_kept p q r nodes buses is = record {
 }
 
 -- a playback after edits that were made can be played, once its lists are in order again
-pub playable_again : (p r : Playback) (es : List Edit) → IsPlayable p → r.stage ≡ fold after p.stage es → r.clips.items ≡ p.clips.items → r.channels ≡ p.channels → r.frames ≡ p.frames → r.room ≡ p.room
+pub playable_again : (p r : Playback) (es : List Edit) → IsPlayable p → r.stage ≡ fold after p.stage es → r.clips.items ≡ p.clips.items → r.channels ≡ p.channels → r.frames ≡ p.frames → r.room ≡ p.room → r.tapes.items ≡ p.tapes.items
     → IsPlan r.stage → ((n : ℕ) → n < length r.stage.nodes → slice_index r.cursors n ≤ slice_index r.frames n)
     → IsOrderOf r.stage r.order.items → IsPermutation r.stage.buses r.ordered_buses.items → IsOrdered r.ordered_buses.items → IsPlayable r
-playable_again p r es is stage clips channels frames room plan most order permutation ordered =
+playable_again p r es is stage clips channels frames room tapes plan most order permutation ordered =
     let nodes : length r.stage.nodes ≡ length p.stage.nodes = ap (λ (q : PlanData). length q.nodes) stage ∙ nodes_run p.stage es in
     let buses : length r.stage.buses ≡ length p.stage.buses = ap (λ (q : PlanData). length q.buses) stage ∙ buses_run p.stage es in
     record {
@@ -96,6 +97,7 @@ playable_again p r es is stage clips channels frames room plan most order permut
       channels_least = subst (λ k. 1 ≤ k) (sym channels) is.channels_least;
       channels_most = subst (λ k. k ≤ 2) (sym channels) is.channels_most;
       clips_are = subst (λ k. All (λ (c : SceneClipData). c.channels ≡ k) r.clips.items) (sym channels) (subst (λ (cs : List SceneClipData). All (λ (c : SceneClipData). c.channels ≡ p.channels) cs) (sym clips) is.clips_are);
+      tapes_are = ap files_of tapes ∙ is.tapes_are ∙ sym (ap (map (λ (c : SceneClipData). c.bytes)) clips);
       frames_are = λ n below.
           let within : n < length p.stage.nodes = omega (arith, below, nodes) in
           ap (λ (xs : List ℕ). slice_index xs n) frames ∙ is.frames_are n within

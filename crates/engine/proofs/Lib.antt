@@ -7,9 +7,14 @@ pub mod Edges
 pub mod EditsMade
 pub mod Fed
 pub mod Feeding
+pub mod GivenPages
 pub mod Middle
+pub mod Needed
 pub mod NodesKept
 pub mod PlayedParts
+pub mod Rendered
+pub mod ResourceClips
 pub mod SoundsHeard
 pub mod SpanPlayed
+pub mod StillPlayable
 pub mod TapeClips

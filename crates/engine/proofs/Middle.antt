@@ -2,7 +2,7 @@
 use Rattle.std.proofs.Common.{◌≡◌, ◌⊎◌, inl, inr, ℕ, ◌+◌, ◌-◌, ◌<◌, ◌≤◌, ℤ, pos, List, ◌++◌, length, take, drop, replicate, length-append, sym, ◌∙◌, ap, subst, arith}
 use Rattle.std.proofs.lemmas.Bool.{cases_lt}
 use Rattle.std.proofs.lemmas.Int.{ints}
-use Rattle.std.proofs.lemmas.List.{get_or-replicate, get_or_past, length-take-le, length-drop, length-replicate}
+use Rattle.std.proofs.lemmas.List.{get_or-drop, get_or-replicate, get_or-take, get_or_past, length-take, length-take-le, length-drop, length-replicate}
 use borrow.Rule.Slice.PartMut.{put_mid, post_of}
 use Rattle.mix_fixed.specs.Sound.{Is24}
 use Rattle.scene_clips.proofs.Middle.{mid_below, mid_inside, mid_above}
@@ -44,3 +44,12 @@ silent_at xs n j is = ap (λ (ys : List ℤ). at ys j) is ∙ by_place (cases_lt
 
 pub silence_is_24 : Is24 (pos 0)
 silence_is_24 = record { low = omega (arith, ints); high = omega (arith, ints) }
+
+-- the middle itself
+pub part_samples : (a k : ℕ) (xs : List ℤ) → AreSamples xs → AreSamples (take k (drop a xs))
+part_samples a k xs are j below =
+    let count = length-take k (drop a xs) in
+    let rest = length-drop a xs in
+    let short : j < k = omega (arith, below, count) in
+    let inside : a + j < length xs = omega (arith, below, count, rest) in
+    subst Is24 (sym (get_or-take k (drop a xs) j (pos 0) short ∙ get_or-drop a xs j (pos 0))) (are (a + j) inside)

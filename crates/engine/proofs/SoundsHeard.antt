@@ -1,6 +1,6 @@
 -- What a sound of a playback puts out.
-use Rattle.std.proofs.Common.{◌≡◌, ℕ, ◌+◌, ◌*◌, ◌/◌, ◌%◌, ◌<◌, ◌≤◌, true, ℤ, pos, List, length, Option, Some, None, sym, ◌∙◌, ap, subst, arith}
-use Rattle.std.specs.Prelude.{All, slice_index, slice_get}
+use Rattle.std.proofs.Common.{◌≡◌, ℕ, ◌+◌, ◌*◌, ◌/◌, ◌%◌, ◌<◌, ◌≤◌, true, ℤ, pos, List, length, Option, Some, None, refl, sym, ◌∙◌, ap, subst, arith}
+use Rattle.std.specs.Prelude.{All, IfSome, slice_index, slice_get}
 use Rattle.std.specs.Option.{option_map_or}
 use Rattle.std.proofs.lemmas.Option.{slice_get_within, get_or_from_slice_get}
 use Rattle.mix_fixed.specs.Kernels.{at}
@@ -16,7 +16,7 @@ use Rattle.mix_model.specs.Signals.{input, kind_output, sample_at}
 use Rattle.mix_model.specs.Spans.{IsSteady}
 use Rattle.engine.specs.declared.playback.Playback.{Playback}
 use Rattle.engine.specs.Nodes.{IsPlayable, IsSpanOf, IsSoundOf}
-use Rattle.engine.specs.Sounds.{ArePlayed, PlaysFrom}
+use Rattle.engine.specs.Sounds.{ArePlayed, IsPlayedAt, PlaysFrom}
 use Rattle.engine.specs.Span.{Span, state_at, AreOutputs, IsSteadyAt}
 use Rattle.engine.proofs.PlayedParts.{sound_outputs}
 
@@ -70,3 +70,29 @@ steady_places s p count is span j n below =
     ∙ ap (λ t. is_active (t + j / s.channels) (node p.stage n)) span.time_is
     ∙ span.steady (j / s.channels) n short
     ∙ sym (ap (λ (q : PlanData). is_active s.first.time (node q n)) span.plan_is ∙ ap (λ t. is_active t (node p.stage n)) span.time_is)
+
+-- ---- a resource that may be there or not
+
+pub played_here : (p : Playback) (n resource : ℕ) → IsPlayable p → n < length p.stage.nodes → IsSoundOf resource (node p.stage n).kind
+    → IfSome (slice_get p.clips.items resource) (λ (c : SceneClipData). IsPlayedAt c (slice_index p.cursors n))
+played_here p n resource is below sound = by_option (slice_get p.clips.items resource) refl
+  where
+    by_option : (o : Option SceneClipData) → slice_get p.clips.items resource ≡ o → IfSome o (λ (c : SceneClipData). IsPlayedAt c (slice_index p.cursors n))
+    by_option None e = tt
+    by_option (Some c) e =
+        let same = clip_channels p resource c is e in
+        record {
+          channels_least = subst (λ k. 1 ≤ k) (sym same) is.channels_least;
+          channels_most = subst (λ k. k ≤ 2) (sym same) is.channels_most;
+          cursor_most = subst (λ f. slice_index p.cursors n ≤ f) (is.frames_are n below ∙ sound_frames p.clips.items resource (node p.stage n).kind c sound e) (is.cursors_most n below);
+        }
+
+pub resource_heard : (s : Span) (p : Playback) (n resource count : ℕ) (xs : List ℤ) → IsPlayable p → n < length p.stage.nodes → IsSoundOf resource (node p.stage n).kind → IsSpanOf s p count → pulled p.stage p.time n ≡ true
+    → IfSome (slice_get p.clips.items resource) (λ (c : SceneClipData). ArePlayed c (node p.stage n).looped (slice_index p.cursors n) (count * c.channels) xs)
+    → (slice_get p.clips.items resource ≡ None → (j : ℕ) → at xs j ≡ pos 0) → AreOutputs s (count * p.channels) n xs
+resource_heard s p n resource count xs is below sound span pulls heard silent = by_option (slice_get p.clips.items resource) refl heard
+  where
+    by_option : (o : Option SceneClipData) → slice_get p.clips.items resource ≡ o
+        → IfSome o (λ (c : SceneClipData). ArePlayed c (node p.stage n).looped (slice_index p.cursors n) (count * c.channels) xs) → AreOutputs s (count * p.channels) n xs
+    by_option None e played = silence_put_out s p n resource count (count * p.channels) xs sound e span (silent e)
+    by_option (Some c) e played = sound_heard s p n resource count c xs is below sound e span pulls played

@@ -1,5 +1,6 @@
 pub mod Cached
 pub mod FeedRoom
+pub mod Needs
 pub mod Nodes
 pub mod Playing
 pub mod RendererData
@@ -9,3 +10,4 @@ pub mod RunAnswers
 pub mod RunFaultText
 pub mod Sounds
 pub mod Span
+pub mod TapeClips

@@ -1,5 +1,5 @@
 -- The nodes of a span, in an order in which each stands behind those that feed it.
-use Rattle.std.specs.Prelude.{◌≡◌, ℕ, ◌<◌, ◌≤◌, Bool, true, ℤ, List, All, Contains, length, slice_index, Some}
+use Rattle.std.specs.Prelude.{◌≡◌, ℕ, ◌<◌, ◌≤◌, Bool, true, ℤ, List, All, Contains, length, map, slice_index, Some}
 use Rattle.std.specs.List.Sorted.{IsPermutation}
 use Rattle.scene_clips.specs.SceneClipData.{SceneClipData}
 use Rattle.scene_model.specs.declared.bus.Bus.{Bus}
@@ -11,6 +11,7 @@ use Rattle.mix_model.specs.Mix.{kind_frames}
 use Rattle.mix_model.specs.OrderedBuses.{IsOrdered, mark_at}
 use Rattle.mix_model.specs.Pulled.{node, pulled}
 use Rattle.mix_model.specs.Spans.{IsSteady}
+use Rattle.resource_mgr.specs.Tapes.{files_of}
 use Rattle.engine.specs.declared.playback.Playback.{Playback}
 use Rattle.engine.specs.Room.{IsRoomFor}
 use Rattle.engine.specs.Span.{Span, AreOutputs, kept_at}
@@ -22,13 +23,14 @@ pub record IsOrderOf (p : PlanData) (order : List ℕ) : Type 0 where
   pub behind : (k : ℕ) (b : Bus) → k < length order → Contains p.buses b → b.to ≡ Some (slice_index order k) →
       (i : ℕ) × (i < k) × (slice_index order i ≡ b.node)
 
--- the lists by which a span is played are those of the plan: an order of its nodes and one of its buses, the clips, places in
--- them, and room
+-- the lists by which a span is played are those of the plan: an order of its nodes and one of its buses, the clips and their tapes,
+-- places in them, and room
 pub record IsPlayable (p : Playback) : Type 0 where
   pub plan_is : IsPlan p.stage
   pub channels_least : 1 ≤ p.channels
   pub channels_most : p.channels ≤ 2
   pub clips_are : All (λ (c : SceneClipData). c.channels ≡ p.channels) p.clips.items
+  pub tapes_are : files_of p.tapes.items ≡ map (λ (c : SceneClipData). c.bytes) p.clips.items
   pub frames_are : (n : ℕ) → n < length p.stage.nodes → slice_index p.frames n ≡ kind_frames p.clips.items (node p.stage n).kind
   pub cursors_most : (n : ℕ) → n < length p.stage.nodes → slice_index p.cursors n ≤ slice_index p.frames n
   pub order_is : IsOrderOf p.stage p.order.items

@@ -1,13 +1,16 @@
 -- A scene while it is played, block by block.
-use Rattle.std.specs.Prelude.{◌≡◌, ◌≢◌, ◌⊎◌, ℕ, ◌+◌, ◌<◌, ◌≤◌, [], List, length, slice_index}
+use Rattle.std.specs.Prelude.{◌≡◌, ◌≢◌, ◌⊎◌, ℕ, ◌+◌, ◌-◌, ◌*◌, ◌/◌, ◌%◌, ◌<◌, ◌≤◌, ℤ, [], List, length, slice_index}
+use Rattle.mix_fixed.specs.Kernels.{at as at_place}
 use Rattle.scene_model.specs.declared.order.NumberedEdit.{NumberedEdit}
 use Rattle.scene_model.specs.IsScene.{IsScene}
 use Rattle.scene_model.specs.Order.{in_order}
 use Rattle.scene_model.specs.SceneData.{SceneData}
-use Rattle.scene_model.specs.Times.{edits_at}
+use Rattle.scene_model.specs.Times.{edits_at, plan}
 use Rattle.mix_model.specs.Due.{frame_at}
-use Rattle.mix_model.specs.Mix.{node_frames}
+use Rattle.mix_model.specs.Mix.{frame_state, node_frames}
 use Rattle.mix_model.specs.Moments.{Moment, IsBeforeEdits, IsAfterEdits}
+use Rattle.mix_model.specs.Pulled.{endpoint}
+use Rattle.mix_model.specs.Signals.{input}
 use Rattle.engine.specs.declared.playback.Playback.{Playback}
 use Rattle.engine.specs.Nodes.{IsPlayable}
 
@@ -48,3 +51,17 @@ pub record IsBlock (s : SceneData) (t count : ℕ) : Type 0 where
   pub within : t + count ≤ s.length
   pub quiet : (i : ℕ) → 0 < i → i < count → edits_at s.edits (t + i) ≡ []
   pub whole : (count ≡ 512) ⊎ (t + count ≡ s.length) ⊎ (edits_at s.edits (t + count) ≢ [])
+
+-- A block of the frames from `start` on and before `end`, in which no edit falls but at its first, is rendered up to the playback's frame:
+-- the samples of the frames before that are in their places, interleaved
+pub record IsInBlock (p : Playback) (start end : ℕ) (samples : List ℤ) : Type 0 where
+  pub from : start ≤ p.time
+  pub until : p.time ≤ end
+  pub most : end ≤ start + 512
+  pub within : end ≤ p.scene.value.length
+  pub quiet : NoEditsBetween (in_order p.scene.value.edits) start end
+  pub room : (end - start) * p.channels ≤ length samples
+  pub at : p.time < end → IsAt p
+  pub before : p.time ≡ end → IsBefore p
+  pub rendered : (j : ℕ) → j < (p.time - start) * p.channels → at_place samples j
+      ≡ input (frame_state p.clips.items p.scene.value (start + j / p.channels)) (j % p.channels) (endpoint (plan p.scene.value (start + j / p.channels)))

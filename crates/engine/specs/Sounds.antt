@@ -1,5 +1,5 @@
 -- What a sound puts out over a span.
-use Rattle.std.specs.Prelude.{◌≡◌, ℕ, ◌+◌, ◌/◌, ◌%◌, ◌<◌, nat_lt, Bool, true, ℤ, List, Some, slice_get, if◌then◌else◌}
+use Rattle.std.specs.Prelude.{◌≡◌, ℕ, ◌+◌, ◌/◌, ◌%◌, ◌<◌, ◌≤◌, nat_lt, Bool, true, ℤ, List, Some, slice_get, if◌then◌else◌}
 use Rattle.mix_fixed.specs.Kernels.{at}
 use Rattle.scene_clips.specs.SceneClipData.{SceneClipData}
 use Rattle.scene_clips.specs.ClipFrames.{clip_length}
@@ -13,6 +13,12 @@ use Rattle.engine.specs.Span.{Span}
 abbrev pub ArePlayed : SceneClipData → Bool → ℕ → ℕ → List ℤ → Type 0
 ArePlayed c looped cursor count xs =
     (j : ℕ) → j < count → at xs j ≡ sample_at c (played (clip_length c.bytes c.rate) looped cursor (j / c.channels)) (j % c.channels)
+
+-- a clip of one or two channels, with a cursor in it or at its end
+pub record IsPlayedAt (c : SceneClipData) (cursor : ℕ) : Type 0 where
+  pub channels_least : 1 ≤ c.channels
+  pub channels_most : c.channels ≤ 2
+  pub cursor_most : cursor ≤ clip_length c.bytes c.rate
 
 -- the place in a clip some frames after one from which it is played, if it doesn't end before; at its end it stays
 abbrev pub place_in : ℕ → ℕ → ℕ → ℕ

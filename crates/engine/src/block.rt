@@ -1,18 +1,20 @@
 //! A block: frames that follow one another, in which no edit falls.
 
-ghost use Rattle.std.specs.Prelude.{◌≡◌, ◌≤◌, ◌<◌, ◌+◌, ◌-◌, ◌*◌, ◌/◌, ◌%◌, ℕ, length, All};
-ghost use Rattle.clip_decode.specs.Frames.{interleaved};
+ghost use Rattle.std.specs.Prelude.{◌≡◌, ◌≤◌, ◌<◌, ◌+◌, ◌-◌, ◌*◌, ◌/◌, ◌%◌, ℕ, length, All, OnOk, OnErr, IfErr};
 ghost use Rattle.mix_fixed.specs.Kernels.{at};
-ghost use Rattle.mix_model.specs.Mix.{frame_state, frames_from};
+ghost use Rattle.mix_model.specs.Mix.{frame_state};
 ghost use Rattle.mix_model.specs.Pulled.{endpoint};
 ghost use Rattle.mix_model.specs.Signals.{input};
 ghost use Rattle.mix_model.specs.Spans.{IsSteady};
 ghost use Rattle.scene_model.specs.Order.{in_order};
 ghost use Rattle.scene_model.specs.Times.{plan};
-ghost use Rattle.engine.specs.Playing.{IsAt, IsBefore, IsBlock, NoEditsBetween};
+ghost use Rattle.resource_mgr.specs.Tapes.{AreLater};
+ghost use Rattle.engine.specs.Needs.{ReadsPage, WasNotShownOf};
+ghost use Rattle.engine.specs.Playing.{IsAt, IsBefore, IsBlock, IsInBlock, NoEditsBetween};
 ghost use Rattle.engine.specs.Span.{most_span_frames};
 
 use crate::edits::make_due;
+use crate::need::Need;
 use crate::order::put_in_order;
 use crate::playback::Playback;
 use crate::steady::span_end;
@@ -62,59 +64,52 @@ impl Playback {
         }
     }
 
-    /// Renders the frames up to frame `end`, at most 512, interleaved. No edit falls between.
-    pub(crate) fn render_block(&mut self, end: u32, out: &mut [i32])
-        requires at { IsAt self.old }
-        requires some { self.old.time < end }
-        requires most { end ≤ self.old.time + most_span_frames }
-        requires within { end ≤ self.old.scene.value.length }
-        requires quiet { NoEditsBetween (in_order self.old.scene.value.edits) self.old.time end }
-        requires room { length out.old ≡ (end - self.old.time) * self.old.channels }
-        ensures before { IsBefore self.new }
-        ensures time { self.new.time ≡ end }
+    /// Renders the frames of a block that begins at frame `start` and ends before frame `end`, at most 512, from the playback's frame on,
+    /// into their places in `out`, interleaved. No edit falls between. Where it stops, it can go on later.
+    ///
+    /// # Errors
+    ///
+    /// [`Need`] where a sound reads a page that isn't shown yet. The frames before it are rendered then.
+    pub(crate) fn render_block(&mut self, start: u32, end: u32, out: &mut [i32]) -> Result<(), Need>
+        requires standing { IsInBlock self.old start end out.old }
+        ensures standing { IsInBlock self.new start end out.new }
+        ensures end { OnOk result (self.new.time ≡ end) }
         ensures scene { self.new.scene.value ≡ self.old.scene.value }
         ensures clips { self.new.clips.items ≡ self.old.clips.items }
-        ensures samples { out.new ≡ interleaved (frames_from self.old.clips.items self.old.scene.value self.old.time (end - self.old.time)) }
+        ensures tapes { AreLater self.old.tapes.items self.new.tapes.items }
+        ensures need { IfErr result (λ need. ReadsPage self.old.clips.items self.old.scene.value start end need.resource need.page
+            × WasNotShownOf need.resource self.old.tapes.items self.new.tapes.items need.page need.shown) }
     {
-        let mut done = 0;
         while self.time < end {
-            done += self.render_next_span(end, done, out);
+            self.render_next_span(start, end, out)?;
         }
+        Ok(())
     }
 
-    /// Renders the next span, as far as no node begins or ceases to be active before `end`, into its
-    /// places behind `done` frames, and makes the edits of the frame after it if that is before `end`.
-    /// Answers the number of its frames.
-    fn render_next_span(&mut self, end: u32, done: usize, out: &mut [i32]) -> usize
-        requires at { IsAt self.old }
+    /// Renders the next span of the block, as far as no node begins or ceases to be active, and makes the edits of the
+    /// frame after it if that is before `end`.
+    fn render_next_span(&mut self, start: u32, end: u32, out: &mut [i32]) -> Result<(), Need>
+        requires standing { IsInBlock self.old start end out.old }
         requires some { self.old.time < end }
-        requires most { done + (end - self.old.time) ≤ most_span_frames }
-        requires within { end ≤ self.old.scene.value.length }
-        requires quiet { NoEditsBetween (in_order self.old.scene.value.edits) self.old.time end }
-        requires room { length out.old ≡ (done + (end - self.old.time)) * self.old.channels }
-        ensures some { 0 < result }
-        ensures most { result ≤ end - self.old.time }
-        ensures time { self.new.time ≡ self.old.time + result }
-        ensures at { self.new.time < end → IsAt self.new }
-        ensures before { self.new.time ≡ end → IsBefore self.new }
+        ensures standing { IsInBlock self.new start end out.new }
+        ensures later { OnOk result (self.old.time < self.new.time) }
         ensures scene { self.new.scene.value ≡ self.old.scene.value }
-        ensures channels { self.new.channels ≡ self.old.channels }
         ensures clips { self.new.clips.items ≡ self.old.clips.items }
-        ensures here { (j : ℕ) → j < result * self.old.channels → at out.new (done * self.old.channels + j)
-            ≡ input (frame_state self.old.clips.items self.old.scene.value (self.old.time + j / self.old.channels)) (j % self.old.channels)
-            (endpoint (plan self.old.scene.value (self.old.time + j / self.old.channels))) }
-        ensures rest { (j : ℕ) → j < done * self.old.channels → at out.new j ≡ at out.old j }
+        ensures tapes { AreLater self.old.tapes.items self.new.tapes.items }
+        ensures need { IfErr result (λ need. ReadsPage self.old.clips.items self.old.scene.value self.old.time end need.resource need.page
+            × WasNotShownOf need.resource self.old.tapes.items self.new.tapes.items need.page need.shown) }
     {
         let count = (span_end(self.stage.plan().nodes(), self.time, end) - self.time) as usize;
-        self.play_span(count, done, out);
+        let done = (self.time - start) as usize;
+        self.play_span(count, done, out)?;
         if self.time < end {
             self.edit();
         }
-        count
+        Ok(())
     }
 
-    /// Renders a span, in which no node begins or ceases to be active and no edit falls.
-    fn play_span(&mut self, count: usize, done: usize, out: &mut [i32])
+    /// Renders a span, in which no node begins or ceases to be active and no edit falls, into its places behind `done` frames.
+    fn play_span(&mut self, count: usize, done: usize, out: &mut [i32]) -> Result<(), Need>
         requires at { IsAt self.old }
         requires some { 0 < count }
         requires most { done + count ≤ most_span_frames }
@@ -122,16 +117,22 @@ impl Playback {
         requires quiet { NoEditsBetween (in_order self.old.scene.value.edits) self.old.time (self.old.time + count) }
         requires steady { IsSteady self.old.stage self.old.time count }
         requires room { (done + count) * self.old.channels ≤ length out.old }
-        ensures before { IsBefore self.new }
-        ensures time { self.new.time ≡ self.old.time + count }
+        ensures before { OnOk result (IsBefore self.new) }
+        ensures at { OnErr result (IsAt self.new) }
+        ensures time { OnOk result (self.new.time ≡ self.old.time + count) }
+        ensures same_time { OnErr result (self.new.time ≡ self.old.time) }
         ensures scene { self.new.scene.value ≡ self.old.scene.value }
         ensures channels { self.new.channels ≡ self.old.channels }
         ensures clips { self.new.clips.items ≡ self.old.clips.items }
-        ensures here { (j : ℕ) → j < count * self.old.channels → at out.new (done * self.old.channels + j)
+        ensures tapes { AreLater self.old.tapes.items self.new.tapes.items }
+        ensures need { IfErr result (λ need. ReadsPage self.old.clips.items self.old.scene.value self.old.time (self.old.time + count) need.resource need.page
+            × WasNotShownOf need.resource self.old.tapes.items self.new.tapes.items need.page need.shown) }
+        ensures here { OnOk result ((j : ℕ) → j < count * self.old.channels → at out.new (done * self.old.channels + j)
             ≡ input (frame_state self.old.clips.items self.old.scene.value (self.old.time + j / self.old.channels)) (j % self.old.channels)
-            (endpoint (plan self.old.scene.value (self.old.time + j / self.old.channels))) }
+            (endpoint (plan self.old.scene.value (self.old.time + j / self.old.channels)))) }
         ensures rest { (j : ℕ) → j < done * self.old.channels → at out.new j ≡ at out.old j }
     {
-        self.render_span(count, done, out);
+        self.render_span(count, done, out)?;
+        Ok(())
     }
 }

@@ -7,8 +7,11 @@
 //! pulled is rendered once a span (`nodes.rt`), behind those that feed it, and its samples are kept for
 //! all its buses: those of a sound from its clip (`sounds.rt`), those of another node as the sum of what
 //! the buses attached to it add (`feeds.rt`). The endpoint's are the samples of the block. The first
-//! frames of all clips, as many as fit a budget, are brought to the scene's rate and channels once, when a
-//! renderer opens (`cached_clip.rt`), and copied for each sound that plays them.
+//! frames of all clips, as many as fit a budget, are kept at the scene's rate and in its channels once they were played
+//! (`cached_clip.rt`, `kept_frames.rt`), and copied for each sound that plays them again.
+//!
+//! The pages come from tapes, which show them one after the other, since other threads may decode them meanwhile. [`Renderer::ready`]
+//! renders the block as far as its pages are shown, and answers a [`Need`] where it reads one that isn't; [`Renderer::block`] gives it.
 //!
 //! That the blocks are the mix is the clause `samples` of [`Renderer::block`]: the frames of the scene
 //! from its clock on, which `mix_model` defines frame by frame. `specs/Span.antt` says what the samples of
@@ -24,6 +27,8 @@ mod block;
 mod cached_clip;
 mod edits;
 mod feeds;
+mod kept_frames;
+mod need;
 mod nodes;
 mod opening;
 mod order;
@@ -37,6 +42,7 @@ mod sounds;
 mod span;
 mod steady;
 
+pub use need::Need;
 pub use renderer::Renderer;
 pub use rendering::{mix, render};
 pub use run_fault::RunFault;

@@ -1,6 +1,6 @@
 //! The file that a scene is rendered to, written in pieces.
 
-ghost use Rattle.std.specs.Prelude.{◌≡◌, ◌<◌, ◌≤◌, ◌++◌, ℕ, List, None, Some, IsSome, length, IfOk};
+ghost use Rattle.std.specs.Prelude.{◌≡◌, ◌<◌, ◌≤◌, ◌++◌, ℕ, List, None, Some, true, false, IsSome, length, IfOk};
 ghost use Rattle.mix_model.specs.Mix.{clips_of, frames_from};
 ghost use Rattle.mix_model.specs.Output.{padding, wav};
 ghost use Rattle.mix_model.specs.Rendering.{data_of, summary_of};
@@ -8,6 +8,7 @@ ghost use Rattle.snd_io.specs.Answers.{put_failed};
 ghost use Rattle.snd_io.specs.Faults.{CountsFaults};
 ghost use Rattle.snd_io.specs.Runs.{GrowsBy, RunOfAppends, SetsFile};
 ghost use Rattle.wave_write.specs.Header.{data_bytes};
+ghost use Rattle.resource_mgr.specs.Tapes.{AreLater, AreShown, files_of};
 ghost use Rattle.engine.specs.Rendering.{frames_before};
 ghost use Rattle.engine.specs.RunAnswers.{answer_of, fault_answer};
 ghost use Rattle.engine.specs.Span.{node_places};
@@ -22,8 +23,8 @@ use snd_io::{Depot, Gate, Put};
 use std::alloc::Global;
 use wave_write::pack;
 
-/// Sets OUT to the WAVE file of a scene whose renderer stands at its first frame. The gate is called before
-/// and after each block.
+/// Sets OUT to the WAVE file of a scene whose renderer stands at its first frame, and to whose tapes all pages are shown. The gate
+/// is called before and after each block.
 pub(crate) fn write_out<D: Depot, G: Gate>(
     alloc: Global,
     scene: &Scene,
@@ -34,13 +35,14 @@ pub(crate) fn write_out<D: Depot, G: Gate>(
 ) -> Result<Summary, RunFault>
     requires scene { renderer.old.scene ≡ scene.now }
     requires start { renderer.old.clock ≡ 0 }
-    requires fresh { renderer.old.next ≡ None }
+    requires fresh { (renderer.old.next ≡ None) × (renderer.old.ready ≡ false) }
+    requires whole { AreShown renderer.old.tapes }
     requires closed { D.writing depot.old ≡ None }
-    ensures after { let frames = frames_from (clips_of scene.now renderer.old.files) scene.now 0 scene.now.length in
+    ensures after { let frames = frames_from (clips_of scene.now (files_of renderer.old.tapes)) scene.now 0 scene.now.length in
         SetsFile (answer_of result) out.now (wav scene.now frames) (D.files depot.old) (D.files depot.new) }
     ensures closed { D.writing depot.new ≡ None }
     ensures cause { CountsFaults (D.faults depot.old) (D.faults depot.new) (put_failed (answer_of result)) }
-    ensures summary { let frames = frames_from (clips_of scene.now renderer.old.files) scene.now 0 scene.now.length in
+    ensures summary { let frames = frames_from (clips_of scene.now (files_of renderer.old.tapes)) scene.now 0 scene.now.length in
         IfOk result (λ summary. summary ≡ summary_of scene.now frames) }
 {
     done(depot.create(alloc, out))?;
@@ -60,13 +62,14 @@ fn append_wav<D: Depot, G: Gate>(
 ) -> Result<Summary, RunFault>
     requires scene { renderer.old.scene ≡ scene.now }
     requires start { renderer.old.clock ≡ 0 }
-    requires fresh { renderer.old.next ≡ None }
+    requires fresh { (renderer.old.next ≡ None) × (renderer.old.ready ≡ false) }
+    requires whole { AreShown renderer.old.tapes }
     requires writing { IsSome (D.writing depot.old) }
     ensures after { (name : List ℕ) → D.writing depot.old ≡ Some name →
-        RunOfAppends (answer_of result) name (wav scene.now (frames_from (clips_of scene.now renderer.old.files) scene.now 0 scene.now.length))
+        RunOfAppends (answer_of result) name (wav scene.now (frames_from (clips_of scene.now (files_of renderer.old.tapes)) scene.now 0 scene.now.length))
         (D.files depot.old) (D.files depot.new) (D.writing depot.new) }
     ensures cause { CountsFaults (D.faults depot.old) (D.faults depot.new) (put_failed (answer_of result)) }
-    ensures summary { let frames = frames_from (clips_of scene.now renderer.old.files) scene.now 0 scene.now.length in
+    ensures summary { let frames = frames_from (clips_of scene.now (files_of renderer.old.tapes)) scene.now 0 scene.now.length in
         IfOk result (λ summary. summary ≡ summary_of scene.now frames) }
 {
     append(alloc, depot, &scene_header(scene))?;
@@ -85,13 +88,14 @@ fn append_blocks<D: Depot, G: Gate>(
 ) -> Result<Summary, RunFault>
     requires scene { renderer.old.scene ≡ scene.now }
     requires start { renderer.old.clock ≡ 0 }
-    requires fresh { renderer.old.next ≡ None }
+    requires fresh { (renderer.old.next ≡ None) × (renderer.old.ready ≡ false) }
+    requires whole { AreShown renderer.old.tapes }
     requires writing { IsSome (D.writing depot.old) }
     ensures after { (name : List ℕ) → D.writing depot.old ≡ Some name →
-        RunOfAppends (answer_of result) name (data_of scene.now (frames_from (clips_of scene.now renderer.old.files) scene.now 0 scene.now.length))
+        RunOfAppends (answer_of result) name (data_of scene.now (frames_from (clips_of scene.now (files_of renderer.old.tapes)) scene.now 0 scene.now.length))
         (D.files depot.old) (D.files depot.new) (D.writing depot.new) }
     ensures cause { CountsFaults (D.faults depot.old) (D.faults depot.new) (put_failed (answer_of result)) }
-    ensures summary { let frames = frames_from (clips_of scene.now renderer.old.files) scene.now 0 scene.now.length in
+    ensures summary { let frames = frames_from (clips_of scene.now (files_of renderer.old.tapes)) scene.now 0 scene.now.length in
         IfOk result (λ summary. summary ≡ summary_of scene.now frames) }
 {
     let mut samples = [0i32; NODE_PLACES];
@@ -121,23 +125,39 @@ fn next_block(
     summary: Summary,
 ) -> Result<Summary, OutOfMemory>
     requires scene { renderer.old.scene ≡ scene.now }
-    requires fresh { renderer.old.next ≡ None }
+    requires fresh { (renderer.old.next ≡ None) × (renderer.old.ready ≡ false) }
+    requires whole { AreShown renderer.old.tapes }
     requires left { renderer.old.clock < scene.now.length }
     requires room { length samples.old ≡ node_places }
-    ensures next { IfOk result (λ _. renderer.new ≡ record renderer.old { clock = renderer.new.clock }) }
+    ensures next { IfOk result (λ _. renderer.new ≡ record renderer.old { clock = renderer.new.clock; tapes = renderer.new.tapes }) }
+    ensures tapes { IfOk result (λ _. AreLater renderer.old.tapes renderer.new.tapes) }
     ensures later { IfOk result (λ _. renderer.old.clock < renderer.new.clock) }
     ensures within { IfOk result (λ _. renderer.new.clock ≤ scene.now.length) }
-    ensures bytes { IfOk result (λ _. data_of scene.now (frames_before scene.now renderer.old.files renderer.new.clock)
-        ≡ data_of scene.now (frames_before scene.now renderer.old.files renderer.old.clock) ++ bytes.new.items) }
-    ensures summary { summary ≡ summary_of scene.now (frames_before scene.now renderer.old.files renderer.old.clock) →
-        IfOk result (λ next. next ≡ summary_of scene.now (frames_before scene.now renderer.old.files renderer.new.clock)) }
+    ensures bytes { IfOk result (λ _. data_of scene.now (frames_before scene.now (files_of renderer.old.tapes) renderer.new.clock)
+        ≡ data_of scene.now (frames_before scene.now (files_of renderer.old.tapes) renderer.old.clock) ++ bytes.new.items) }
+    ensures summary { summary ≡ summary_of scene.now (frames_before scene.now (files_of renderer.old.tapes) renderer.old.clock) →
+        IfOk result (λ next. next ≡ summary_of scene.now (frames_before scene.now (files_of renderer.old.tapes) renderer.new.clock)) }
 {
     let frames = renderer.step();
+    make_ready(renderer);
     let out = &mut samples[..frames as usize * usize::from(scene.channels)];
     renderer.block(out);
     bytes.clear();
     pack(alloc, out, scene.width, bytes)?;
     Ok(summary.extended(out, bytes.as_slice()))
+}
+
+/// Asks for the pages of the next block, all of which are shown.
+fn make_ready(renderer: &mut Renderer)
+    requires next { IsSome renderer.old.next }
+    requires whole { AreShown renderer.old.tapes }
+    ensures ready { renderer.new ≡ record renderer.old { tapes = renderer.new.tapes; ready = true } }
+    ensures tapes { AreLater renderer.old.tapes renderer.new.tapes }
+{
+    match renderer.ready() {
+        Ok(()) => (),
+        Err(_) => unreachable!(),
+    }
 }
 
 /// Appends what follows the frames: a zero byte where the data have an odd size (RIFF WAVE), and nothing, with

@@ -5,6 +5,7 @@ use crate::room::Room;
 use mix_model::MAX_INPUTS;
 use node_graph::Stage;
 use plain_data::Rows;
+use resource_mgr::Tape;
 use scene_model::{Bus, NumberedEdit, Scene};
 use std::snapshot::Snapshot;
 
@@ -24,6 +25,8 @@ pub(crate) struct Playback {
     pub(crate) stage: Stage,
     /// The clips of the resources, at the scene's rate and channels.
     pub(crate) clips: Vec<CachedClip>,
+    /// The tapes of the resources, of which the clips have their pages.
+    pub(crate) tapes: Vec<Tape>,
     /// The edits of the scene in the order of their frames.
     pub(crate) edits: Rows<NumberedEdit>,
     /// The place of the first edit that isn't made yet.

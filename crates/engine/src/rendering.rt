@@ -6,7 +6,7 @@ ghost use Rattle.clip_decode.specs.Limits.{most_sound_bytes};
 ghost use Rattle.mix_model.specs.Mix.{mix as mix_of};
 ghost use Rattle.mix_model.specs.Output.{wav};
 ghost use Rattle.mix_model.specs.Rendering.{summary_of};
-ghost use Rattle.resource_mgr.specs.TapeData.{TapeData};
+ghost use Rattle.resource_mgr.specs.Tapes.{AreWholeTapes};
 ghost use Rattle.resource_mgr.specs.Workers.{most_workers};
 ghost use Rattle.scene_model.specs.Limits as limits;
 ghost use Rattle.snd_io.specs.Answers.{put_failed};
@@ -32,8 +32,8 @@ use std::thread::Threads;
 /// created, gets one append for the header, one for each block and one for the pad byte, and is finished. The
 /// answer is the summary of the frames.
 ///
-/// `clips` are those of the scene's resources, in their order, each of at most 67,108,864 bytes. The bytes of
-/// each are given back once its pages are decoded. All clips are decoded before OUT is created.
+/// `clips` are those of the scene's resources, in their order, each of at most 67,108,864 bytes. All clips are decoded before
+/// OUT is created.
 ///
 /// # Errors
 ///
@@ -93,36 +93,19 @@ pub fn render<R: Threads + Wait + Sync, D: Depot, G: Gate + Sync>(
     ensures summary { let frames = mix_of scene.now (map (λ (c : ClipData). c.bytes) clips.items) in
         IfOk result (λ summary. summary ≡ summary_of scene.now frames) }
 {
-    let tapes = tapes_by_workers(rt, alloc, clips, workers, gate)?;
+    let tapes = decode_all(rt, alloc, clips, workers, gate)?;
     let mut renderer = Renderer::open(alloc, scene, tapes)?;
     write_out(alloc, scene, &mut renderer, depot, out, gate)
 }
 
-/// The tapes of clips, decoded at once, whose bytes are given back at the end.
-fn tapes_by_workers<R: Threads + Wait + Sync, G: Gate + Sync>(
-    rt: &R,
-    alloc: Global,
-    clips: Vec<Clip>,
-    workers: u32,
-    gate: &G,
-) -> Result<Vec<Tape>, OutOfMemory>
-    requires workers { workers ≤ most_workers }
-    requires few { length clips.items ≤ limits.most_resources }
-    requires sizes { All (λ (c : ClipData). length c.bytes ≤ most_sound_bytes) clips.items }
-    ensures { IfOk result (λ tapes. map (λ (t : TapeData). t.bytes) tapes.items ≡ map (λ (c : ClipData). c.bytes) clips.items) }
-{
-    let tapes = decode_all(rt, alloc, clips.as_slice(), workers, gate)?;
-    Ok(tapes)
-}
-
-/// The tapes of clips, whose bytes are given back one after the other.
+/// The tapes of clips.
 fn tapes_of(alloc: Global, clips: Vec<Clip>) -> Result<Vec<Tape>, OutOfMemory>
     requires { All (λ (c : ClipData). length c.bytes ≤ most_sound_bytes) clips.items }
-    ensures { IfOk result (λ tapes. map (λ (t : TapeData). t.bytes) tapes.items ≡ map (λ (c : ClipData). c.bytes) clips.items) }
+    ensures { IfOk result (λ tapes. AreWholeTapes clips.items tapes.items) }
 {
     let mut tapes = Vec::new(alloc);
     for clip in clips {
-        tapes.push(Tape::whole(alloc, &clip)?)?;
+        tapes.push(Tape::whole(alloc, clip)?)?;
     }
     Ok(tapes)
 }

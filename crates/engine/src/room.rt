@@ -1,20 +1,24 @@
 //! Room for the work on the nodes of a span.
 
-ghost use Rattle.std.specs.Prelude.{◌≡◌, ◌≢◌, ◌≤◌, ◌<◌, ◌+◌, ◌*◌, ℕ, pos, false, length, IfOk};
+ghost use Rattle.std.specs.Prelude.{◌≡◌, ◌≢◌, ◌≤◌, ◌<◌, ◌+◌, ◌*◌, ℕ, pos, false, length, IfOk, OnOk, IfErr};
 ghost use Rattle.mix_fixed.specs.Kernels.{at, AreSamples};
 ghost use Rattle.scene_clips.specs.ClipFrames.{clip_length};
 ghost use Rattle.scene_model.specs.Limits as limits;
 ghost use Rattle.scene_model.specs.Plans.{is_sound};
 ghost use Rattle.scene_model.specs.PlanData.{PlanData};
+ghost use Rattle.resource_mgr.specs.Tapes.{IsLater, bytes_of};
+ghost use Rattle.engine.specs.Needs.{IsMissingAt};
 ghost use Rattle.engine.specs.Room.{IsRoomFor};
 ghost use Rattle.engine.specs.Sounds.{ArePlayed};
 ghost use Rattle.engine.specs.Span.{Span, AreInputs, FeedsKept, IsSteadyAt, most_span_frames, node_places};
 
 use crate::cached_clip::CachedClip;
 use crate::feeds::{FeedRoom, NODE_PLACES};
+use crate::need::Missing;
 use crate::sounds::play_sound;
 use node_graph::Stage;
 use plain_data::OutOfMemory;
+use resource_mgr::Tape;
 use std::alloc::Global;
 
 /// Room for the samples of all nodes over a span, and for the work on one of them.
@@ -59,18 +63,34 @@ impl Room {
     }
 
     /// Writes what a sound puts out over the next `frames` frames, at most 512, from its cursor on.
-    pub(crate) fn play(&mut self, clip: &CachedClip, looped: bool, cursor: u64, frames: usize)
+    ///
+    /// # Errors
+    ///
+    /// [`Missing`] where a page of the clip that it reads isn't shown yet.
+    pub(crate) fn play(
+        &mut self,
+        clip: &mut CachedClip,
+        tape: &mut Tape,
+        looped: bool,
+        cursor: u64,
+        frames: usize,
+    ) -> Result<(), Missing>
         requires samples { length self.old.samples.items ≡ node_places }
         requires range { AreSamples self.old.samples.items }
-        requires cursor { cursor ≤ clip_length clip.now.bytes clip.now.rate }
-        requires channels_least { 1 ≤ clip.now.channels }
-        requires channels_most { clip.now.channels ≤ 2 }
+        requires tape { bytes_of tape.old ≡ clip.old.bytes }
+        requires cursor { cursor ≤ clip_length clip.old.bytes clip.old.rate }
+        requires channels_least { 1 ≤ clip.old.channels }
+        requires channels_most { clip.old.channels ≤ 2 }
         requires few { frames ≤ most_span_frames }
         ensures room { (p : PlanData) → IsRoomFor p self.old → IsRoomFor p self.new }
         ensures kept { self.new.kept.items ≡ self.old.kept.items }
-        ensures played { ArePlayed clip.now looped cursor (frames * clip.now.channels) self.new.samples.items }
+        ensures same { clip.new ≡ clip.old }
+        ensures later { OnOk result (IsLater tape.old tape.new) }
+        ensures missing { IfErr result (λ m. IsMissingAt clip.old looped cursor frames tape.old tape.new m.page m.shown) }
+        ensures played { OnOk result (ArePlayed clip.old looped cursor (frames * clip.old.channels) self.new.samples.items) }
     {
-        play_sound(clip, looped, cursor, frames, self.samples.as_mut_slice());
+        let samples = self.samples.as_mut_slice();
+        play_sound(clip, tape, looped, cursor, frames, samples)
     }
 
     /// Writes silence.

@@ -1,15 +1,18 @@
 //! A span: frames that follow one another, in which no node begins or ceases to be active.
 
-ghost use Rattle.std.specs.Prelude.{◌≡◌, ◌≤◌, ◌<◌, ◌+◌, ◌*◌, ◌^◌, ℕ, length, slice_index, slice_index_or};
+ghost use Rattle.std.specs.Prelude.{◌≡◌, ◌≤◌, ◌<◌, ◌+◌, ◌*◌, ◌^◌, ℕ, length, slice_index, slice_index_or, OnOk, OnErr, IfErr};
 ghost use Rattle.mix_fixed.specs.Kernels.{at};
 ghost use Rattle.mix_model.specs.OrderedBuses.{mark_at};
 ghost use Rattle.mix_model.specs.Pulled.{endpoint, no_node, node, pulled};
 ghost use Rattle.mix_model.specs.Spans.{cursor_in};
 ghost use Rattle.engine.specs.Nodes.{AreKept, AreMarked, IsPlayable, IsSpanOf};
+ghost use Rattle.resource_mgr.specs.Tapes.{AreLater};
+ghost use Rattle.engine.specs.Needs.{IsNeeded};
 ghost use Rattle.engine.specs.Room.{IsRoomFor};
 ghost use Rattle.engine.specs.Span.{Span, AreInputs, input_at, most_span_frames};
 
 use crate::advance::played_to;
+use crate::need::Need;
 use crate::playback::Playback;
 use mix_model::mark_pulled;
 use scene_model::NodeState;
@@ -17,27 +20,41 @@ use scene_model::NodeState;
 impl Playback {
     /// Renders the next `count` frames, 1 to 512, in which no node begins or ceases to be active, into
     /// their places behind `done` frames of `out`, interleaved. The sounds that are pulled play on.
-    pub(crate) fn render_span(&mut self, count: usize, done: usize, out: &mut [i32])
+    ///
+    /// # Errors
+    ///
+    /// [`Need`] where a sound reads a page that isn't shown yet. Nothing has moved then.
+    pub(crate) fn render_span(
+        &mut self,
+        count: usize,
+        done: usize,
+        out: &mut [i32],
+    ) -> Result<(), Need>
         requires playable { IsPlayable self.old }
         requires few { count ≤ most_span_frames }
         requires early { done ≤ most_span_frames }
         requires time { self.old.time + count < 2 ^ 32 }
         requires room { (done + count) * self.old.channels ≤ length out.old }
-        ensures same { self.new ≡ record self.old { time = self.old.time + count; cursors = self.new.cursors; marks = self.new.marks; room = self.new.room } }
+        ensures ok { OnOk result (self.new ≡ record self.old { time = self.old.time + count; cursors = self.new.cursors; marks = self.new.marks; room = self.new.room; clips = self.new.clips; tapes = self.new.tapes }) }
+        ensures err { OnErr result (self.new ≡ record self.old { marks = self.new.marks; room = self.new.room; clips = self.new.clips; tapes = self.new.tapes }) }
+        ensures clips { self.new.clips.items ≡ self.old.clips.items }
+        ensures tapes { AreLater self.old.tapes.items self.new.tapes.items }
         ensures room { IsRoomFor self.old.stage self.new.room }
-        ensures here { (s : Span) → IsSpanOf s self.old count → (j : ℕ) → j < count * self.old.channels →
-            at out.new (done * self.old.channels + j) ≡ input_at s (endpoint self.old.stage) j }
+        ensures need { IfErr result (λ need. IsNeeded self.old self.new.tapes.items count need.resource need.page need.shown) }
+        ensures here { OnOk result ((s : Span) → IsSpanOf s self.old count → (j : ℕ) → j < count * self.old.channels →
+            at out.new (done * self.old.channels + j) ≡ input_at s (endpoint self.old.stage) j) }
         ensures before { (j : ℕ) → j < done * self.old.channels → at out.new j ≡ at out.old j }
-        ensures moved { (n : ℕ) → n < length self.old.stage.nodes → slice_index self.new.cursors n
-            ≡ cursor_in (pulled self.old.stage self.old.time n) (slice_index self.old.frames n) (node self.old.stage n).looped (slice_index self.old.cursors n) count }
-        ensures rest { (n : ℕ) → length self.old.stage.nodes ≤ n → slice_index self.new.cursors n ≡ slice_index self.old.cursors n }
+        ensures moved { OnOk result ((n : ℕ) → n < length self.old.stage.nodes → slice_index self.new.cursors n
+            ≡ cursor_in (pulled self.old.stage self.old.time n) (slice_index self.old.frames n) (node self.old.stage n).looped (slice_index self.old.cursors n) count) }
+        ensures rest { OnOk result ((n : ℕ) → length self.old.stage.nodes ≤ n → slice_index self.new.cursors n ≡ slice_index self.old.cursors n) }
     {
         self.mark();
-        self.render_nodes(count);
+        self.render_nodes(count)?;
         self.mix_endpoint(count);
         let (places, from) = (count * self.channels, done * self.channels);
         put_front(self.room.samples.as_slice(), places, from, out);
         self.advance(count);
+        Ok(())
     }
 
     /// Marks the nodes that are pulled.

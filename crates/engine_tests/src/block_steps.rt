@@ -4,7 +4,6 @@ ghost use Rattle.std.specs.Prelude.{◌≡◌};
 
 use crate::scripts::scene;
 use engine::Renderer;
-use plain_data::OutOfMemory;
 use scene_model::Scene;
 use std::alloc::Global;
 use std::test::Fail;
@@ -23,19 +22,20 @@ edit = [{ op = \"stop\", at = 600, node = \"g\" }]
 type Step = (u32, u32, u32);
 
 /// Renders the next block of a scene of one channel.
-fn next_block(alloc: Global, renderer: &mut Renderer) -> Result<Step, OutOfMemory>
+fn next_block(alloc: Global, renderer: &mut Renderer) -> Result<Step, Fail>
     requires { renderer.old.scene.channels ≡ 1 }
     ensures { renderer.new.scene ≡ renderer.old.scene }
 {
     let frames = renderer.step();
     let again = renderer.step();
     let mut out = vec![in alloc; 0i32; again as usize]?;
+    renderer.ready().ok().ok_or("all pages are shown")?;
     renderer.block(&mut out);
     Ok((frames, again, renderer.clock()))
 }
 
 /// The first five blocks of a scene of one channel and no sounds.
-fn steps(alloc: Global, scene: &Scene) -> Result<Vec<Step>, OutOfMemory>
+fn steps(alloc: Global, scene: &Scene) -> Result<Vec<Step>, Fail>
     requires { scene.now.channels ≡ 1 }
 {
     let mut renderer = Renderer::open(alloc, scene, Vec::new(alloc))?;

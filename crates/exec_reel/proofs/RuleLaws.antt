@@ -14,7 +14,7 @@ use Rattle.exec_reel.specs.declared.view.Stage.TheVariants.{Ready, CursorTaken, 
 use Rattle.exec_reel.specs.declared.view.Role.{Role}
 use Rattle.exec_reel.specs.declared.view.Role.TheVariants.{Opener, Drawing, Drawn, Waiting, Working, Ended, Reading}
 use Rattle.exec_reel.specs.declared.view.View.{View}
-use Rattle.exec_reel.specs.Rule.{Home, IsAmong, Board, KnowsAs, CursorLies, NextPageLies, ShownPageLies, Kept, OneWorks, AreWorking}
+use Rattle.exec_reel.specs.Rule.{IsAmong, CursorLies, NextPageLies, ShownPageLies, Kept, OneWorks, AreWorking}
 use Rattle.exec_reel.proofs.Frame.{knows_role}
 
 -- A seat in this role has a ticket.

@@ -1,14 +1,14 @@
-ghost use Rattle.std.specs.Prelude.{⊤, ◌≡◌, ◌<◌, ◌≤◌, [], true, IfOk, IfErr, MatchResult};
+ghost use Rattle.std.specs.Prelude.{⊤, ◌≡◌, ◌<◌, ◌≤◌, ℕ, [], None, true, length, slice_index_or, IfOk, IfErr, MatchResult};
 ghost use Rattle.std.specs.Arc.{arc_value};
 ghost use Rattle.exec_reel.specs.ClipPages.{page_total, page_of};
-ghost use Rattle.exec_reel.specs.ReaderPages.{AreNone, KeepsPages};
+ghost use Rattle.exec_reel.specs.ReaderPages.{AreNone, KeepsPages, kept_at};
 ghost use Rattle.exec_reel.specs.Rule.{is_among, IsAmong};
 ghost use Rattle.exec_reel.specs.Seats.{IsAt};
 ghost use Rattle.exec_reel.specs.declared.view.Role.TheVariants.{Reading};
 
 use crate::not_yet::NotYet;
 use crate::reel_table::{ReelSeat, ReelTable};
-use clip_decode::Page;
+use clip_decode::{Clip, Page};
 use plain_data::OutOfMemory;
 use std::alloc::Global;
 use std::sync::Arc;
@@ -75,9 +75,50 @@ impl Reader {
         ensures* after { sem 𝓛 (follows_so the_row the_row self.entry.ghost_name none (λ _ _. ⊤)
             (λ n. MatchResult result (λ _. Gave self.old n k) (λ early. IsNotYet self.old n k early.shown))) }
     {
+        self.ask(k)?;
+        Ok(self.taken(k))
+    }
+
+    /// Asks for page `k`, as [`Reader::page`] does, which stays with this reader from then on.
+    ///
+    /// # Errors
+    ///
+    /// Those of [`Reader::page`].
+    pub fn ask(&mut self, k: u32) -> Result<(), NotYet>
+        requires { k < page_total (clip_of_reader self.old) }
+        ensures { MatchResult result (λ _. Gave self.old self.new k) (λ early. IsNotYet self.old self.new k early.shown) }
+    {
         self.look(k)?;
         self.take(k);
-        Ok(self.taken(k))
+        Ok(())
+    }
+
+    /// Page `k`, which this reader was asked for and has given before.
+    pub fn taken(&self, k: u32) -> &Page
+        requires among { IsAmong k (taken_of self.now) }
+        requires below { k < page_total (clip_of_reader self.now) }
+        ensures { result.now ≡ page_of (clip_of_reader self.now) k }
+    {
+        match &self.pages[k as usize] {
+            Some(page) => page,
+            None => unreachable!(),
+        }
+    }
+
+    /// By number, the pages that this reader was asked for and has given so far, and no other.
+    pub fn given(&self) -> &[Option<Page>]
+        ensures count { length result.now ≡ page_total (clip_of_reader self.now) }
+        ensures each { (k : ℕ) → k < page_total (clip_of_reader self.now) →
+            slice_index_or result.now k None ≡ kept_at (clip_of_reader self.now) (taken_of self.now) k }
+    {
+        self.pages.as_slice()
+    }
+
+    /// The clip whose pages these are.
+    pub fn clip(&self) -> &Clip
+        ensures { result.now ≡ clip_of_reader self.now }
+    {
+        &self.shared.opening.clip
     }
 
     // Loads the pointer, where page k wasn't shown before.
@@ -113,18 +154,6 @@ impl Reader {
         ensures { result ≡ is_among k (taken_of self.now) }
     {
         self.pages[k as usize].is_some()
-    }
-
-    // Page k, which the reader has.
-    fn taken(&self, k: u32) -> &Page
-        requires among { IsAmong k (taken_of self.now) }
-        requires below { k < page_total (clip_of_reader self.now) }
-        ensures { result.now ≡ page_of (clip_of_reader self.now) k }
-    {
-        match &self.pages[k as usize] {
-            Some(page) => page,
-            None => unreachable!(),
-        }
     }
 }
 

@@ -99,49 +99,6 @@ fn scenes_hear_what_was_worked_out(rt: HostRuntime) -> Result<(), Fail> {
     Ok(())
 }
 
-/// The frames from `from` to the end, in a scene of two channels.
-fn pairs(
-    rt: &impl Abort,
-    alloc: Global,
-    heard: &SceneClip,
-    from: u64,
-) -> Result<Vec<i32>, OutOfMemory> {
-    assert!(rt; heard.channels() == 2);
-    assert!(rt; from <= heard.len());
-    let count = (heard.len() - from) as usize;
-    let mut out = vec![in alloc; 0i32; 2 * count]?;
-    heard.pairs(from, count, &mut out);
-    Ok(out)
-}
-
-/// Frames in order are those that are read one by one, from the first on and from a later one.
-#[test]
-fn pairs_are_the_samples(rt: HostRuntime) -> Result<(), Fail> {
-    let alloc = rt.alloc();
-    for (channels, rate) in [(1, 8_000), (2, 44_100), (3, 48_000), (2, 96_000)] {
-        let clip = clip(
-            alloc,
-            channels,
-            rate,
-            &[9, -8, 700, 6, -5, 4, 3, -2, 1, 0, -11, 12],
-        )?;
-        let heard = heard(&rt, alloc, &clip, 48_000, 2)?;
-        for from in [0, 1] {
-            let mut want = Vec::new(alloc);
-            for n in from..heard.len() {
-                want.push(sample(&rt, &heard, n, 0))?;
-                want.push(sample(&rt, &heard, n, 1))?;
-            }
-            assert_eq!(rt;
-                pairs(&rt, alloc, &heard, from)?.as_slice(),
-                want.as_slice(),
-                "from {from}"
-            );
-        }
-    }
-    Ok(())
-}
-
 /// The frames from `from` to the end.
 fn run(
     rt: &impl Abort,

@@ -4,7 +4,7 @@ use crate::sound_files::{Format, wave_file};
 use clip_decode::Clip;
 use exec_reel::NotYet;
 use resource_mgr::{LibFault, Tape};
-use scene_clips::SceneClip;
+use scene_clips::PagedClip;
 use std::alloc::Global;
 use std::process::Abort;
 use std::test::Fail;
@@ -39,7 +39,7 @@ fn a_whole_tape_shows_all_pages(rt: HostRuntime) -> Result<(), Fail> {
     let alloc = rt.alloc();
     let clip = long_clip(alloc)?;
     assert!(rt; clip.bytes().len() <= 67_108_864);
-    let mut tape = Tape::whole(alloc, &clip)?;
+    let mut tape = Tape::whole(alloc, clip)?;
     assert_eq!(rt; tape.pages(), 3);
     assert_eq!(rt; tape.wave().frames, 20_000);
     assert_eq!(rt; told(&rt, &mut tape, 0), Some((8_192, 0)));
@@ -49,20 +49,20 @@ fn a_whole_tape_shows_all_pages(rt: HostRuntime) -> Result<(), Fail> {
 }
 
 #[test]
-fn a_tape_gives_its_pages_to_a_clip_of_a_scene(rt: HostRuntime) -> Result<(), Fail> {
+fn a_tape_has_the_first_pages_that_a_clip_of_a_scene_needs(rt: HostRuntime) -> Result<(), Fail> {
     let alloc = rt.alloc();
     let clip = long_clip(alloc)?;
     assert!(rt; clip.bytes().len() <= 67_108_864);
-    let tape = Tape::whole(alloc, &clip)?;
-    assert!(rt; 2 < tape.pages());
-    let pages = tape.into_decoded();
-    assert_eq!(rt; pages.page(2).samples().len(), 3_616);
-    assert_eq!(rt; pages.frame(19_999)[0], 99 * 65_536);
-    let scene_clip = SceneClip::of(pages, 8_000, 1);
-    assert!(rt; 19_999 < scene_clip.len());
-    assert!(rt; 0 < scene_clip.channels());
-    assert_eq!(rt; scene_clip.len(), 20_000);
-    assert_eq!(rt; scene_clip.sample(19_999, 0), 99 * 65_536);
+    let mut tape = Tape::whole(alloc, clip)?;
+    let heard = PagedClip::of(tape.clip(), 8_000, 1);
+    for (frame, pages) in [(0, 1), (8_190, 1), (8_191, 2), (16_383, 3), (19_999, 3)] {
+        assert!(rt; frame < heard.len());
+        assert_eq!(rt; heard.pages_to(frame), pages);
+    }
+    assert!(rt; 2 <= tape.pages());
+    assert!(rt; tape.ask_first(2).is_ok());
+    let found: [bool; 3] = [0, 1, 2].map(|k| matches!(tape.given().get(k), Some(Some(_))));
+    assert_eq!(rt; found, [true, true, false]);
     Ok(())
 }
 

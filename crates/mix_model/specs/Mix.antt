@@ -1,5 +1,5 @@
 -- The mix of a whole scene, frame by frame.
-use Rattle.std.specs.Prelude.{ℕ, zero, suc, ◌+◌, ◌==◌, nat_lt, min, Bool, ℤ, List, map, fold, slice_get, if◌then◌else◌}
+use Rattle.std.specs.Prelude.{◌≡◌, ℕ, zero, suc, ◌+◌, ◌==◌, nat_lt, min, Bool, ℤ, List, map, fold, slice_get, if◌then◌else◌}
 use Rattle.std.specs.List.{range_with_len}
 use Rattle.std.specs.Option.{option_map_or}
 use Rattle.scene_clips.specs.SceneClipData.{SceneClipData}
@@ -22,6 +22,10 @@ clips_of s files = map (λ bytes. record { bytes = bytes; rate = s.rate; channel
 -- the frames of a resource's clip; a resource that isn't there has none
 abbrev pub clip_frames_at : List SceneClipData → ℕ → ℕ
 clip_frames_at clips resource = option_map_or (λ (c : SceneClipData). clip_length c.bytes c.rate) (slice_get clips resource) 0
+
+-- these are the numbers of frames of clips, in their order
+abbrev pub AreFramesOf : List SceneClipData → List ℕ → Type 0
+AreFramesOf clips frames = frames ≡ map (λ (c : SceneClipData). clip_length c.bytes c.rate) clips
 
 -- the frames that a node plays: those of a sound's clip, and none of a group or a splitter
 abbrev pub kind_frames : List SceneClipData → NodeKind → ℕ

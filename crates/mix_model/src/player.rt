@@ -8,7 +8,7 @@ ghost use Rattle.mix_model.specs.Playing.{IsBefore, IsAt};
 ghost use Rattle.mix_model.specs.Signals.{frame};
 ghost use Rattle.clip_decode.specs.Limits.{most_sound_bytes};
 
-use crate::clips::{clip_lengths, decoded};
+use crate::clips::{clip_lengths, decoded, frames_of};
 use crate::cursors::advance_cursors;
 use crate::edits::make_due;
 use crate::frame::inputs;
@@ -60,7 +60,8 @@ impl Player {
         let edits = edits_in_order(alloc, scene.edits.as_slice())?;
         let plan = Plan::opening(alloc, scene)?;
         let ordered_buses = topological_order(alloc, plan.buses())?;
-        let frames = clip_lengths(scene, clips.as_slice());
+        let lengths = frames_of(alloc, clips.as_slice())?;
+        let frames = clip_lengths(scene, lengths.as_slice());
         Ok(Player {
             time: 0,
             plan,

@@ -1,6 +1,6 @@
 pub mod Answers
 pub mod FaultText
 pub mod Fetching
-pub mod NumberedTapes
-pub mod TapeData
+pub mod Reading
+pub mod Tapes
 pub mod Workers

@@ -8,9 +8,9 @@
 //! A [`Tape`] has the pages of one clip in which its frames are decoded. It answers each page that
 //! is shown, and [`NotYet`](exec_reel::NotYet) for the others.
 //!
-//! [`decode_all`] makes the whole tapes of all clips, in several threads: workers take the resources
-//! from a list, each decodes its pages into tapes of its own, and the caller decodes what they left.
-//! The tapes are the same for each number of workers and each order in which they run.
+//! [`decode_all`] makes the whole tapes of all clips, in several threads: workers and the caller take
+//! pages from a list, and each page is decoded in its turn into the room that was taken for it. The tapes
+//! are the same for each number of workers and each order in which they run.
 //!
 //! `specs/Fetching.antt` says what is fetched and which fault comes first.
 #![tactic(auto)]
@@ -18,7 +18,7 @@
 mod decoding;
 mod fetching;
 mod lib_fault;
-mod numbered_tape;
+mod reels;
 mod tape;
 
 pub use decoding::{MAX_WORKERS, decode_all};

@@ -13,7 +13,7 @@ use Rattle.wave_read.specs.Wave.{wave}
 use Rattle.wave_read.specs.declared.wave.Wave.{Wave}
 use Rattle.scene_clips.specs.ClipFrames.{clip_length, clip_sample, file_rate}
 use Rattle.scene_clips.specs.ConverterData.{ConverterData}
-use Rattle.scene_clips.specs.DecodedPages.{frame_or_silence}
+use Rattle.scene_clips.specs.FilePages.{frame_or_silence}
 use Rattle.scene_clips.specs.Unchanged.{channels_said, file_channels, is_unchanged}
 use Rattle.scene_clips.proofs.FilePages.{frame_wide, frames_counted}
 use Rattle.scene_clips.proofs.Rates.{rate_of, whole_quotient, first_only, converted_alone}

@@ -1,9 +1,10 @@
 -- The pages of a file, and the frames in them.
-use Rattle.std.proofs.Common.{◌≡◌, ℕ, zero, suc, ◌+◌, ◌-◌, ◌*◌, ◌/◌, ◌%◌, ◌<◌, ◌≤◌, min, List, [], ◌∷◌, ◌++◌, length, map, take, drop, replicate, ℤ, pos, get_or, refl, ap, sym, ◌∙◌, arith, add-one}
+use Rattle.std.proofs.Common.{◌≡◌, ◌⊎◌, inl, inr, ℕ, zero, suc, ◌+◌, ◌-◌, ◌*◌, ◌/◌, ◌%◌, ◌<◌, ◌≤◌, min, List, [], ◌∷◌, ◌++◌, length, map, take, drop, replicate, ℤ, pos, get_or, Option, Some, None, refl, ap, sym, ◌∙◌, arith}
 use Rattle.std.specs.Prelude.{Ok}
 use Rattle.std.specs.List.{range_with_len}
 use Rattle.std.proofs.Math.Nat.{mul-le-mul_right, div-add-mod', add-mul, mod-lt, lt_of_mul-lt-mul_right}
-use Rattle.std.proofs.lemmas.List.{ext_get_or, get_or-take, get_or-drop, length-drop, length-take-le}
+use Rattle.std.proofs.lemmas.Bool.{cases_lt}
+use Rattle.std.proofs.lemmas.List.{ext_get_or, get_or-take, get_or-drop, get_or_append_left, get_or-append-add, get_or_default, length-drop, length-take-le}
 use Rattle.std.proofs.lemmas.List.FromFn.{length-map-range_with_len, get_or-map-range_with_len}
 use Rattle.clip_decode.specs.Frames.{frame_by, frames, interleaved}
 use Rattle.clip_decode.specs.Pages.{page_frames, PageData}
@@ -11,29 +12,7 @@ use Rattle.clip_decode.specs.Samples.{sample_of}
 use Rattle.clip_decode.proofs.PageLists.{page_by_number, length_joined, joined_at}
 use Rattle.wave_read.specs.Wave.{wave}
 use Rattle.wave_read.specs.declared.wave.Wave.{Wave}
-use Rattle.scene_clips.specs.DecodedPages.{page_data, pages_data, frame_or_silence}
-
-mapped_more : {X : Type 0} (f : ℕ → X) (a n : ℕ) → map f (range_with_len a (suc n)) ≡ map f (range_with_len a n) ++ f (a + n) ∷ []
-mapped_more f a zero = let first : a ≡ a + 0 = omega arith in ap (λ k. f k ∷ []) first
-mapped_more f a (suc n) =
-    let next : a + 1 + n ≡ a + suc n = omega arith in
-    ap (λ xs. f a ∷ xs) (mapped_more f (a + 1) n ∙ ap (λ k. map f (range_with_len (a + 1) n) ++ f k ∷ []) next)
-
--- one page more
-pub pages_more : (bytes : List ℕ) (w : Wave) (k : ℕ) → pages_data bytes w (k + 1) ≡ pages_data bytes w k ++ page_data bytes w k ∷ []
-pages_more bytes w k =
-    let number : 0 + k ≡ k = omega arith in
-    ap (λ n. map (page_data bytes w) (range_with_len 0 n)) (add-one k) ∙ mapped_more (page_data bytes w) 0 k
-    ∙ ap (λ n. pages_data bytes w k ++ page_data bytes w n ∷ []) number
-
-pub pages_counted : (bytes : List ℕ) (w : Wave) (n : ℕ) (kept : List PageData) → kept ≡ pages_data bytes w n → length kept ≡ n
-pages_counted bytes w n kept are = ap length are ∙ length-map-range_with_len (page_data bytes w) 0 n
-
--- the page at a place
-pub page_at : (bytes : List ℕ) (w : Wave) (n k : ℕ) (kept : List PageData) (found : PageData) → kept ≡ pages_data bytes w n → k < n
-    → found ≡ get_or kept k found → found ≡ page_data bytes w k
-page_at bytes w n k kept found are below here =
-    here ∙ ap (λ xs. get_or xs k found) are ∙ get_or-map-range_with_len (page_data bytes w) 0 n k k found below (omega arith)
+use Rattle.scene_clips.specs.FilePages.{AreThere, file_page, frame_or_silence}
 
 pub frames_counted : (bytes : List ℕ) (w : Wave) → wave bytes ≡ Ok w → length (frames bytes) ≡ w.frames
 unfolding frames
@@ -125,7 +104,7 @@ module _ (bytes : List ℕ) (w : Wave) (frame : ℕ) (said : wave bytes ≡ Ok w
       ∙ ap (λ i. get_or (made i) (j % ch) (pos 0)) there
       ∙ ap (λ f. get_or f (j % ch) (pos 0)) (sym (frame_of bytes w (frame + j / ch) (replicate ch (pos 0)) said last))
 
-get_or_past : {X : Type 0} (xs : List X) (i : ℕ) (d : X) → length xs ≤ i → get_or xs i d ≡ d
+pub get_or_past : {X : Type 0} (xs : List X) (i : ℕ) (d : X) → length xs ≤ i → get_or xs i d ≡ d
 get_or_past [] i d past = refl
 get_or_past (x ∷ xs) zero d past = absurd (omega arith)
 get_or_past (x ∷ xs) (suc i) d past = get_or_past xs i d (omega arith)
@@ -140,3 +119,33 @@ silence_past_end bytes w n said past =
 pub frame_wide : (bytes : List ℕ) (w : Wave) (n : ℕ) → wave bytes ≡ Ok w → n < w.frames → length (frame_or_silence w.channels (frames bytes) n) ≡ w.channels
 frame_wide bytes w n said below =
     ap length (frame_of bytes w n (replicate w.channels (pos 0)) said below) ∙ length-map-range_with_len (sample_of bytes w n) 0 w.channels
+
+-- ---- pages that are there
+
+pub there_inside : (bytes : List ℕ) (pages : List (Option PageData)) (k n : ℕ) → AreThere bytes pages n → k < n → k < length pages
+there_inside bytes pages k n there below = by_length (cases_lt k (length pages))
+  where
+    by_length : (k < length pages) ⊎ (length pages ≤ k) → k < length pages
+    by_length (inl inside) = inside
+    by_length (inr past) = let none = sym (get_or_past pages k None past) ∙ there k below in absurd (cc)
+
+pub found_page : (bytes : List ℕ) (pages : List (Option PageData)) (k n : ℕ) (found : Option PageData) → AreThere bytes pages n → k < n
+    → found ≡ get_or pages k found → found ≡ Some (file_page bytes k)
+found_page bytes pages k n found there below here =
+    here ∙ get_or_default pages k found None (there_inside bytes pages k n there below) ∙ there k below
+
+pub fewer_there : (bytes : List ℕ) (pages : List (Option PageData)) (m n : ℕ) → m ≤ n → AreThere bytes pages n → AreThere bytes pages m
+fewer_there bytes pages m n few there k below = there k (omega (arith, few, below))
+
+-- one more
+pub more_there : (bytes : List ℕ) (pages : List (Option PageData)) (n : ℕ) (page : PageData) → length pages ≡ n → AreThere bytes pages n → page ≡ file_page bytes n
+    → AreThere bytes (pages ++ Some page ∷ []) (n + 1)
+more_there bytes pages n page count there is k below = by_place (cases_lt k n)
+  where
+    by_place : (k < n) ⊎ (n ≤ k) → get_or (pages ++ Some page ∷ []) k None ≡ Some (file_page bytes k)
+    by_place (inl less) = get_or_append_left pages (Some page ∷ []) None k (omega (arith, count, less)) ∙ there k less
+    by_place (inr past) =
+        let same : k ≡ length pages + 0 = omega (arith, count, past, below) in
+        let number : n ≡ k = omega (arith, past, below) in
+        ap (λ i. get_or (pages ++ Some page ∷ []) i None) same ∙ get_or-append-add pages (Some page ∷ []) 0 None
+        ∙ ap Some (is ∙ ap (file_page bytes) number)

@@ -18,7 +18,7 @@ use Rattle.wave_read.specs.Laws.{IsWaveOf}
 use Rattle.wave_read.specs.declared.wave.Wave.{Wave}
 use Rattle.scene_clips.specs.ClipFrames.{all_in_channels, sample_or_zero, file_rate, rate_said, clip_length, clip_sample}
 use Rattle.scene_clips.specs.ConverterData.{ConverterData, converted}
-use Rattle.scene_clips.specs.DecodedPages.{frame_or_silence}
+use Rattle.scene_clips.specs.FilePages.{frame_or_silence}
 use Rattle.scene_clips.proofs.FilePages.{frames_counted}
 use Rattle.scene_clips.proofs.Silence.{frame_heard}
 

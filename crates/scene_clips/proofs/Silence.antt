@@ -5,7 +5,7 @@ use Rattle.std.proofs.lemmas.Int.{ints}
 use Rattle.std.proofs.lemmas.List.{replicate-append-replicate}
 use Rattle.rate_fit.specs.Channels.{in_channels, mean, total}
 use Rattle.scene_clips.specs.ClipFrames.{all_in_channels, sample_or_zero}
-use Rattle.scene_clips.specs.DecodedPages.{frame_or_silence}
+use Rattle.scene_clips.specs.FilePages.{frame_or_silence}
 
 -- a frame of 0 is one in other channels too
 silent_total : (w : ℕ) → total (replicate w (pos 0)) ≡ pos 0

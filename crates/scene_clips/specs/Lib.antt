@@ -1,7 +1,6 @@
 pub mod ClipFrames
 pub mod ConverterData
-pub mod DecodedPages
-pub mod PageDecoderData
+pub mod FilePages
 pub mod SceneClipData
 pub mod Walked
 pub mod Unchanged

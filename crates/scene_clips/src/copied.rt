@@ -3,9 +3,11 @@
 ghost use Rattle.std.specs.Prelude.{◌≡◌, ◌+◌, ◌*◌, ◌/◌, ◌%◌, ◌<◌, ◌≤◌, ℕ, pos, true, length, slice_index_or};
 ghost use Rattle.mix_fixed.specs.Sound.{Is24};
 ghost use Rattle.scene_clips.specs.ClipFrames.{clip_length, clip_sample};
+ghost use Rattle.scene_clips.specs.FilePages.{AreThere, pages_to};
 ghost use Rattle.scene_clips.specs.Unchanged.{is_unchanged};
 
-use crate::scene_clip::SceneClip;
+use crate::paged_clip::PagedClip;
+use clip_decode::Page;
 
 /// Writes samples to their places, from place `place` on.
 fn put_samples(out: &mut [i32], place: usize, samples: &[i32])
@@ -16,7 +18,7 @@ fn put_samples(out: &mut [i32], place: usize, samples: &[i32])
     out[place..place + samples.len()].copy_from_slice(samples);
 }
 
-impl SceneClip {
+impl PagedClip {
     /// Whether the file has the scene's rate and channels, so that its frames are the clip's as they stand.
     pub fn is_unchanged(&self) -> bool
         ensures { result ≡ is_unchanged self.now.bytes self.now.rate self.now.channels }
@@ -25,9 +27,10 @@ impl SceneClip {
     }
 
     /// Writes `count` frames from frame `from` on into `out`, page by page.
-    pub(crate) fn copies(&self, from: u64, count: usize, out: &mut [i32])
+    pub(crate) fn copies(&self, pages: &[Option<Page>], from: u64, count: usize, out: &mut [i32])
         requires unchanged { is_unchanged self.now.bytes self.now.rate self.now.channels ≡ true }
         requires frames { from + count ≤ clip_length self.now.bytes self.now.rate }
+        requires there { (n : ℕ) → n < from + count → AreThere self.now.bytes pages.now (pages_to self.now.bytes self.now.rate n) }
         requires room { length out.old ≡ count * self.now.channels }
         ensures values { (j : ℕ) → j < count * self.now.channels → slice_index_or out.new j (pos 0)
             ≡ clip_sample self.now.bytes self.now.rate self.now.channels
@@ -36,16 +39,24 @@ impl SceneClip {
     {
         let mut done = 0;
         while done < count {
-            done += self.copy_next(from, done, count, out);
+            done += self.copy_next(pages, from, done, count, out);
         }
     }
 
     /// Writes the next of these frames behind the first `done`, as many as stand in one page of the file. Answers
     /// how many they are.
-    fn copy_next(&self, from: u64, done: usize, count: usize, out: &mut [i32]) -> usize
+    fn copy_next(
+        &self,
+        pages: &[Option<Page>],
+        from: u64,
+        done: usize,
+        count: usize,
+        out: &mut [i32],
+    ) -> usize
         requires unchanged { is_unchanged self.now.bytes self.now.rate self.now.channels ≡ true }
         requires left { done < count }
         requires frames { from + count ≤ clip_length self.now.bytes self.now.rate }
+        requires there { (n : ℕ) → n < from + count → AreThere self.now.bytes pages.now (pages_to self.now.bytes self.now.rate n) }
         requires room { length out.old ≡ count * self.now.channels }
         ensures some { 0 < result }
         ensures most { done + result ≤ count }
@@ -56,7 +67,7 @@ impl SceneClip {
         ensures before { (j : ℕ) → j < done * self.now.channels → slice_index_or out.new j (pos 0) ≡ slice_index_or out.old j (pos 0) }
     {
         let channels = usize::from(self.channels());
-        let samples = self.decoded.samples_from(from + done as u64);
+        let samples = self.file.samples_from(pages, from + done as u64);
         let frames = (samples.len() / channels).min(count - done);
         put_samples(out, done * channels, &samples[..frames * channels]);
         frames

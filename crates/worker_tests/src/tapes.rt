@@ -1,12 +1,7 @@
 //! The tapes that several workers make, beside those that are made one after the other.
-ghost use Rattle.std.specs.Prelude.{◌≤◌, All, length};
-ghost use Rattle.clip_decode.specs.ClipData.{ClipData};
-ghost use Rattle.clip_decode.specs.Limits.{most_sound_bytes};
-
 use crate::sounds::{FORMATS, clips};
-use clip_decode::{Clip, pages};
+use clip_decode::Clip;
 use resource_mgr::{MAX_WORKERS, Tape, decode_all};
-use scene_clips::DecodedPages;
 use snd_io::FreeGate;
 use std::alloc::Global;
 use std::process::Abort;
@@ -23,48 +18,39 @@ fn lengths() -> [u16; 64] {
     lengths
 }
 
-/// Whether both have the same pages.
-fn are_alike(rt: &impl Abort, found: &DecodedPages, wanted: &DecodedPages) -> bool {
-    let count = pages(wanted.wave());
-    if pages(found.wave()) != count {
-        return false;
-    }
-    for k in 0..count {
-        assert!(rt; k < pages(found.wave()));
-        if found.page(k).samples() != wanted.page(k).samples() {
-            return false;
-        }
-    }
-    true
-}
-
-/// Whether the tape shows all pages of the clip.
-pub fn is_whole(rt: &impl Abort, alloc: Global, mut tape: Tape, clip: &Clip) -> Result<bool, Fail> {
+/// Whether the tape shows the pages of the clip, all of them.
+pub fn is_whole(rt: &impl Abort, alloc: Global, mut tape: Tape, clip: Clip) -> Result<bool, Fail> {
     assert!(rt; clip.bytes().len() <= 67_108_864);
-    let wanted = Tape::whole(alloc, clip)?.into_decoded();
-    for k in 0..tape.pages() {
-        assert!(rt; k < tape.pages());
-        if tape.page(k).is_err() {
+    let mut wanted = Tape::whole(alloc, clip)?;
+    if tape.pages() != wanted.pages() {
+        return Ok(false);
+    }
+    for k in 0..wanted.pages() {
+        assert!(rt; k < tape.pages() && k < wanted.pages());
+        let (Ok(page), Ok(alike)) = (tape.page(k), wanted.page(k)) else {
+            return Ok(false);
+        };
+        if page.samples() != alike.samples() {
             return Ok(false);
         }
     }
-    Ok(are_alike(rt, &tape.into_decoded(), &wanted))
+    Ok(true)
 }
 
-/// Decodes these clips with so many workers, and tells how many tapes are whole.
+/// Decodes clips of so many frames with so many workers, and tells how many tapes are whole.
 fn count_whole<R: Threads + Wait + Sync + Abort>(
     rt: &R,
     alloc: Global,
-    clips: &[Clip],
+    frames: &[u16],
     workers: u32,
-) -> Result<usize, Fail>
-    requires { All (λ (clip : ClipData). length clip.bytes ≤ most_sound_bytes) clips.now }
-{
+) -> Result<usize, Fail> {
+    let wanted = clips(rt, alloc, FORMATS, frames)?;
+    let clips = clips(rt, alloc, FORMATS, frames)?;
     assert!(rt; clips.len() <= 64 && workers <= 16);
     let tapes = decode_all(rt, alloc, clips, workers, &FreeGate)?;
-    assert_eq!(rt; tapes.len(), clips.len());
+    assert_eq!(rt; tapes.len(), wanted.len());
     let mut count: usize = 0;
-    for (tape, clip) in tapes.into_iter().zip(clips) {
+    for (tape, clip) in tapes.into_iter().zip(wanted) {
         if is_whole(rt, alloc, tape, clip)? {
             count = count.saturating_add(1);
         }
@@ -76,9 +62,11 @@ fn count_whole<R: Threads + Wait + Sync + Abort>(
 fn workers_make_the_whole_tapes_of_all_clips(rt: HostRuntime) -> Result<(), Fail> {
     let lengths = lengths();
     for count in [0, 1, 5, 64] {
-        let clips = clips(&rt, rt.alloc(), FORMATS, &lengths[..count])?;
         for workers in [0, 1, 2, MAX_WORKERS] {
-            assert_eq!(rt; count_whole(&rt, rt.alloc(), &clips, workers)?, count);
+            assert_eq!(rt;
+                count_whole(&rt, rt.alloc(), &lengths[..count], workers)?,
+                count
+            );
         }
     }
     Ok(())

@@ -8,6 +8,8 @@ use Rattle.scene_model.specs.SceneData.{SceneData}
 use Rattle.mix_model.specs.Mix.{clips_of, frames_from}
 use Rattle.mix_model.specs.Rendering.{data_of, summary_of}
 use Rattle.mix_model.proofs.Written.{data-join}
+use Rattle.resource_mgr.specs.Tapes.{files_of}
+use Rattle.resource_mgr.proofs.Tapes.{laters_files, laters_shown}
 use Rattle.engine.specs.RendererData.{RendererData}
 use Rattle.engine.specs.Rendering.{frames_before}
 use Rattle.engine.proofs.Appending.{ended, stays_open, stopped_piece}
@@ -22,13 +24,14 @@ unfolding interleaved
 loop-scene-init g c =
     let s = c.args.scene.now in
     let r = c.args.renderer.now in
-    let empty : data_of s (frames_before s r.files r.clock) ≡ [] = ap (λ t. data_of s (frames_before s r.files t)) c.requires.start in
+    let empty : data_of s (frames_before s (files_of r.tapes) r.clock) ≡ [] = ap (λ t. data_of s (frames_before s (files_of r.tapes) t)) c.requires.start in
     record {
       scene = c.requires.scene;
       files = refl;
+      whole = c.requires.whole;
       fresh = c.requires.fresh;
       within = omega (arith, c.requires.start);
-      summary_is = c.empty-summary.ensures ∙ sym (ap (λ t. summary_of s (frames_before s r.files t)) c.requires.start);
+      summary_is = c.empty-summary.ensures ∙ sym (ap (λ t. summary_of s (frames_before s (files_of r.tapes) t)) c.requires.start);
       number_most = omega arith;
       room = refl;
       writing = refl;
@@ -39,7 +42,7 @@ loop-scene-init g c =
 pub loop-scene-preserved : goal.loop-scene-preserved
 loop-scene-preserved g c =
     let s = c.args.scene.now in
-    let files = c.args.renderer.now.files in
+    let files = files_of c.args.renderer.now.tapes in
     let now = c.loop-scene.invariant in
     let did = c.in-Ok.ensures in
     let r = c.loop-scene.renderer in
@@ -48,8 +51,9 @@ loop-scene-preserved g c =
     let joined = bytes ∙ ap (λ xs. data_of s (frames_before s files r.clock) ++ xs) (sym c.as_slice.ensures.value) in
     record {
       scene = ap (λ (x : RendererData). x.scene) did.next ∙ now.scene;
-      files = ap (λ (x : RendererData). x.files) did.next ∙ now.files;
-      fresh = ap (λ (x : RendererData). x.next) did.next ∙ now.fresh;
+      files = laters_files r.tapes q.tapes did.tapes ∙ now.files;
+      whole = laters_shown r.tapes q.tapes did.tapes now.whole;
+      fresh = (ap (λ (x : RendererData). x.next) did.next ∙ now.fresh.0, ap (λ (x : RendererData). x.ready) did.next ∙ now.fresh.1);
       within = did.within;
       summary_is = subst (λ (fs : List (List ℕ)). c.loop-scene.summary ≡ summary_of s (frames_before s fs r.clock) → c.in-Ok.more ≡ summary_of s (frames_before s fs q.clock)) now.files did.summary now.summary_is;
       number_most = omega (arith, now.number_most, did.later);
@@ -63,7 +67,7 @@ loop-scene-preserved g c =
 pub returns-in-Err-clause-after : goal.returns-in-Err-clause-after
 returns-in-Err-clause-after g c = λ name is.
     let s = c.args.scene.now in
-    let files = c.args.renderer.now.files in
+    let files = files_of c.args.renderer.now.tapes in
     let now = c.loop-scene.invariant in
     ended c.without_memory.result name (data_of s (frames_before s files c.loop-scene.renderer.clock)) (data_of s (frames_from (clips_of s files) s 0 s.length)) _ _ _ _
     (data_rest s files c.loop-scene.renderer.clock now.within) (now.grown name is) c.without_memory.ensures.files c.without_memory.ensures.closed
@@ -71,7 +75,7 @@ returns-in-Err-clause-after g c = λ name is.
 pub returns-in_err-append-clause-after : goal.returns-in_err-append-clause-after
 returns-in_err-append-clause-after g c = λ name is.
     let s = c.args.scene.now in
-    let files = c.args.renderer.now.files in
+    let files = files_of c.args.renderer.now.tapes in
     let now = c.loop-scene.invariant in
     let did = c.in-Ok.ensures in
     let r = c.loop-scene.renderer in

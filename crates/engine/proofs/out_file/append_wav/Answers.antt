@@ -8,6 +8,7 @@ use Rattle.mix_model.specs.Mix.{clips_of, frames_from}
 use Rattle.mix_model.specs.Output.{padding}
 use Rattle.mix_model.specs.Rendering.{data_of}
 use Rattle.mix_model.proofs.Written.{wav_is}
+use Rattle.resource_mgr.specs.Tapes.{files_of}
 use Rattle.engine.specs.RunAnswers.{fault_answer}
 use Rattle.engine.proofs.Appending.{stopped}
 use Rattle.engine.proofs.out_file.append_wav.Goals as goal
@@ -15,7 +16,7 @@ use Rattle.engine.proofs.out_file.append_wav.Goals as goal
 pub returns-in_err-append-clause-after : goal.returns-in_err-append-clause-after
 returns-in_err-append-clause-after g c = λ name is.
     let s = c.args.scene.now in
-    let clips = clips_of s c.args.renderer.now.files in
+    let clips = clips_of s (files_of c.args.renderer.now.tapes) in
     let start = header s.channels s.rate s.width s.length in
     let frames = data_of s (frames_from clips s 0 s.length) in
     let end = padding (data_bytes s.channels s.width s.length) in
@@ -31,7 +32,7 @@ returns-in_err-append-clause-after g c = λ name is.
 pub returns-in_err-summary-clause-after : goal.returns-in_err-summary-clause-after
 returns-in_err-summary-clause-after g c = λ name is.
     let s = c.args.scene.now in
-    let clips = clips_of s c.args.renderer.now.files in
+    let clips = clips_of s (files_of c.args.renderer.now.tapes) in
     let start = header s.channels s.rate s.width s.length in
     let frames = data_of s (frames_from clips s 0 s.length) in
     let end = padding (data_bytes s.channels s.width s.length) in
@@ -49,7 +50,7 @@ returns-in_err-summary-clause-after g c = λ name is.
 pub returns-in_err-append_padding-clause-after : goal.returns-in_err-append_padding-clause-after
 returns-in_err-append_padding-clause-after g c = λ name is.
     let s = c.args.scene.now in
-    let clips = clips_of s c.args.renderer.now.files in
+    let clips = clips_of s (files_of c.args.renderer.now.tapes) in
     let start = header s.channels s.rate s.width s.length in
     let frames = data_of s (frames_from clips s 0 s.length) in
     let end = padding (data_bytes s.channels s.width s.length) in
@@ -69,7 +70,7 @@ returns-in_err-append_padding-clause-after g c = λ name is.
 pub returns-clause-after : goal.returns-clause-after
 returns-clause-after g c = λ name is.
     let s = c.args.scene.now in
-    let clips = clips_of s c.args.renderer.now.files in
+    let clips = clips_of s (files_of c.args.renderer.now.tapes) in
     let start = header s.channels s.rate s.width s.length in
     let frames = data_of s (frames_from clips s 0 s.length) in
     let end = padding (data_bytes s.channels s.width s.length) in

@@ -1,12 +1,15 @@
-use Rattle.std.proofs.Common.{◌*◌, ◌-◌, ◌≤◌}
+use Rattle.std.proofs.Common.{◌≡◌, ◌*◌, ◌-◌, ◌≤◌}
 use Rattle.mix_fixed.specs.Kernels.{AreSamples}
+use Rattle.resource_mgr.specs.Tapes.{IsLater}
 use Rattle.engine.specs.Sounds.{ArePlayed}
 use Rattle.engine.proofs.sounds.play_sound.Given as goal
 
 abbrev pub invariant-loop-done : goal.invariant-loop-done
 invariant-loop-done l = record {
   within : l.done ≤ l.frames;
-  played : ArePlayed l.clip l.looped l.cursor (l.done * l.clip.channels) l.out;
+  clip : l.clip ≡ l.fn.clip;
+  later : IsLater l.fn.tape l.tape;
+  played : ArePlayed l.fn.clip l.looped l.cursor (l.done * l.fn.clip.channels) l.out;
   samples : AreSamples l.out;
 }
 

@@ -73,7 +73,7 @@ returns-then-place-self-clause-at c =
       of_scene = record { scene_is = before.of_scene.scene_is; length_is = before.of_scene.length_is; edits_are = before.of_scene.edits_are; channels_are = before.of_scene.channels_are; frames_are = before.of_scene.frames_are };
       time_most = c.requires.left;
       moment = made;
-      playable = playable_again p _ (due (in_order s.edits) t) before.playable plan refl refl refl refl
+      playable = playable_again p _ (due (in_order s.edits) t) before.playable plan refl refl refl refl refl
           (subst (λ (q : PlanData). IsPlan q) plan_is c.put_in_order.ensures.plan) (λ n below. most n)
           (subst (λ (q : PlanData). IsOrderOf q (with_items p.order c.put_in_order.new.order).items) plan_is (subst (λ (xs : List ℕ). IsOrderOf c.plan-plan.result.now xs) (sym orders) c.put_in_order.ensures.order))
           (subst (λ (q : PlanData). IsPermutation q.buses (with_items p.ordered_buses c.put_in_order.new.ordered_buses).items) plan_is (subst (λ (bs : List Bus). IsPermutation c.plan-plan.result.now.buses bs) (sym sorted) c.put_in_order.ensures.permutation))
@@ -105,7 +105,7 @@ returns-else-place-self-clause-at c =
       of_scene = record { scene_is = before.of_scene.scene_is; length_is = before.of_scene.length_is; edits_are = before.of_scene.edits_are; channels_are = before.of_scene.channels_are; frames_are = before.of_scene.frames_are };
       time_most = c.requires.left;
       moment = subst (λ (k : ℕ). IsAfterEdits p.clips.items s (record { plan = c.make_due-place.new.stage; time = t; place = k; cursors = c.make_due-place.new.cursors })) same made;
-      playable = playable_again p _ (due (in_order s.edits) t) before.playable plan refl refl refl refl
+      playable = playable_again p _ (due (in_order s.edits) t) before.playable plan refl refl refl refl refl
           (subst (λ (q : PlanData). IsPlan q) (sym unchanged) before.playable.plan_is) (λ n below. most n)
           (subst (λ (q : PlanData). IsOrderOf q p.order.items) (sym unchanged) before.playable.order_is)
           (subst (λ (q : PlanData). IsPermutation q.buses p.ordered_buses.items) (sym unchanged) before.playable.permutation)

@@ -1,26 +1,27 @@
-use Rattle.std.proofs.Common.{List, length, refl, sym, ◌∙◌, ap, rules}
-use Rattle.std.specs.Prelude.{slice_get}
-use Rattle.std.proofs.lemmas.Bool.{ltb-true, ltb-false}
-use Rattle.std.proofs.lemmas.Option.{slice_get_past, slice_get_read}
+use Rattle.std.proofs.Common.{◌*◌, List, map, sym, ◌∙◌, ap, subst}
+use Rattle.std.specs.Prelude.{IfSome, slice_get, slice_index, slice_index_or}
 use Rattle.scene_clips.specs.SceneClipData.{SceneClipData}
-use Rattle.engine.proofs.SoundsHeard.{sound_heard, silence_put_out}
+use Rattle.scene_model.specs.declared.node_state.NodeState.{NodeState}
+use Rattle.scene_model.specs.PlanData.{PlanData}
+use Rattle.mix_model.specs.Pulled.{no_node, node}
+use Rattle.resource_mgr.specs.Tapes.{files_of}
+use Rattle.engine.specs.Sounds.{ArePlayed}
+use Rattle.engine.proofs.SoundsHeard.{resource_heard}
 use Rattle.engine.proofs.playback.Playback.play_sound.Goals as goal
 
-pub returns-in-Some-clause-outputs : goal.returns-in-Some-clause-outputs
-returns-in-Some-clause-outputs c = λ s span pulls.
-    let p = c.args.self.now in
-    let clips = c.as_slice.result.now in
-    let clip = c.in-Some.clip.now in
-    let lookup = c.in-Some.ensures.lookup in
-    let there = slice_get_read clips (length clips) c.args.resource clip refl (ltb-true c.args.resource (length clips) (sym lookup.0)) lookup.1 in
-    sound_heard s p c.args.n c.args.resource c.args.count clip c.play.new.self.samples.items c.requires.playable c.requires.node c.requires.sound
-    (ap (λ (xs : List SceneClipData). slice_get xs c.args.resource) (sym c.as_slice.ensures.value) ∙ there) span pulls (search rules)
+pub play_resource-requires-clause-alike : goal.play_resource-requires-clause-alike
+play_resource-requires-clause-alike c =
+    ap files_of c.as_mut_slice-tapes.ensures.value ∙ c.requires.playable.tapes_are ∙ sym (ap (map (λ (x : SceneClipData). x.bytes)) c.as_mut_slice-clips.ensures.value)
 
-pub returns-in-None-clause-outputs : goal.returns-in-None-clause-outputs
-returns-in-None-clause-outputs c = λ s span pulls.
+pub returns-clause-outputs : goal.returns-clause-outputs
+returns-clause-outputs c = λ s span.
     let p = c.args.self.now in
-    let clips = c.as_slice.result.now in
-    let lookup = c.in-None.ensures.lookup in
-    let none = slice_get_past clips c.args.resource (ltb-false c.args.resource (length clips) (sym lookup.0)) in
-    silence_put_out s p c.args.n c.args.resource c.args.count _ c.silence.new.self.samples.items c.requires.sound
-    (ap (λ (xs : List SceneClipData). slice_get xs c.args.resource) (sym c.as_slice.ensures.value) ∙ none) span c.silence.ensures.silent
+    let value = c.as_mut_slice-clips.ensures.value in
+    let samples = c.play_resource.new.room.samples.items in
+    let did = c.in_ok-play_resource.ensures in
+    let nodes = c.nodes.ensures.value ∙ ap (λ (q : PlanData). q.nodes) c.plan.ensures in
+    let played = subst (λ (ns : List NodeState). IfSome (slice_get c.as_mut_slice-clips.result.now c.args.resource)
+    (λ (x : SceneClipData). ArePlayed x (slice_index_or ns c.args.n no_node).looped (slice_index p.cursors c.args.n) (c.args.count * x.channels) samples)) nodes did.played in
+    resource_heard s p c.args.n c.args.resource c.args.count samples c.requires.playable c.requires.node c.requires.sound span c.requires.pulled
+    (subst (λ (cs : List SceneClipData). IfSome (slice_get cs c.args.resource) (λ (x : SceneClipData). ArePlayed x (node p.stage c.args.n).looped (slice_index p.cursors c.args.n) (c.args.count * x.channels) samples)) value played)
+    (λ none. did.silent (ap (λ (cs : List SceneClipData). slice_get cs c.args.resource) value ∙ none))

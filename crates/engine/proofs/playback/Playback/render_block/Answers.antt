@@ -1,42 +1,43 @@
-use Rattle.std.proofs.Common.{◌≡◌, ◌+◌, ◌-◌, ◌*◌, ◌/◌, ◌%◌, ◌<◌, length, ◌∙◌, ap, subst, arith}
-use Rattle.mix_fixed.specs.Kernels.{at}
-use Rattle.mix_model.proofs.FrameSamples.{samples_are}
-use Rattle.engine.proofs.BlockFrames.{heard_more, heard_at, same_heard}
+use Rattle.std.proofs.Common.{List, refl, ◌∙◌, subst, arith}
+use Rattle.std.proofs.lemmas.Result.{err_from_is_err_and}
+use Rattle.scene_clips.specs.SceneClipData.{SceneClipData}
+use Rattle.scene_model.specs.SceneData.{SceneData}
+use Rattle.resource_mgr.proofs.Tapes.{laters_refl, laters_trans}
+use Rattle.engine.specs.Needs.{ReadsPage}
+use Rattle.engine.proofs.Needed.{not_shown_of, reads_before}
 use Rattle.engine.proofs.playback.Playback.render_block.Goals as goal
+
+pub loop-self-init : goal.loop-self-init
+loop-self-init c = record { standing = c.requires.standing; scene = refl; clips = refl; tapes = laters_refl c.args.self.now.tapes.items }
 
 pub loop-self-preserved : goal.loop-self-preserved
 loop-self-preserved c =
-    let p = c.args.self.now in
-    let q = c.loop-self.self in
     let now = c.loop-self.invariant in
-    let did = c.render_next_span-done.ensures in
-    let done = c.loop-self.done in
-    let count = c.render_next_span-done.result in
-    let wide : done * q.channels ≡ done * p.channels = ap (λ k. done * k) now.channels in
+    let did = c.in_ok-render_next_span.ensures in
     record {
-      time = omega (arith, now.time, did.time);
-      most = omega (arith, did.time, did.most, c.loop-self-test.true);
-      is_at = did.at;
-      is_before = did.before;
+      standing = did.standing;
       scene = did.scene ∙ now.scene;
-      channels = did.channels ∙ now.channels;
       clips = did.clips ∙ now.clips;
-      samples = heard_more p.clips.items p.scene.value p.time q.time p.channels done count c.loop-self.out c.render_next_span-done.new.out c.requires.at.playable.channels_least now.time
-          (λ j below. did.rest j (omega (arith, below, wide)))
-          (same_heard q.clips.items p.clips.items q.scene.value p.scene.value q.time q.channels p.channels done count c.render_next_span-done.new.out now.clips now.scene now.channels did.here)
-          now.samples;
+      tapes = laters_trans c.args.self.now.tapes.items c.loop-self.self.tapes.items c.render_next_span.new.self.tapes.items now.tapes did.tapes;
     }
 
-pub returns-clause-samples : goal.returns-clause-samples
-returns-clause-samples c =
+pub returns-in_err-render_next_span-clause-tapes : goal.returns-in_err-render_next_span-clause-tapes
+returns-in_err-render_next_span-clause-tapes c =
+    laters_trans c.args.self.now.tapes.items c.loop-self.self.tapes.items c.render_next_span.new.self.tapes.items c.loop-self.invariant.tapes c.in_err-render_next_span.ensures.tapes
+
+pub returns-in_err-render_next_span-clause-need : goal.returns-in_err-render_next_span-clause-need
+returns-in_err-render_next_span-clause-need c =
     let p = c.args.self.now in
-    let s = p.scene.value in
+    let q = c.loop-self.self in
+    let new = c.render_next_span.new.self in
     let now = c.loop-self.invariant in
-    let count = c.args.end - p.time in
-    let at_end : c.loop-self.done ≡ count = omega (arith, now.time, now.most, c.loop-self-test.false) in
-    let channels = c.requires.at.of_scene.channels_are in
-    let some : 0 < s.channels = omega (arith, channels, c.requires.at.playable.channels_least) in
-    let long : length c.loop-self.out ≡ count * s.channels = c.loop-self.auto.out ∙ c.requires.room ∙ ap (λ k. count * k) channels in
-    samples_are p.clips.items s p.time count c.loop-self.out some long
-    (λ j below. subst (λ k. at c.loop-self.out j ≡ heard_at p.clips.items s (p.time + j / k) (j % k)) channels
-    (now.samples j (omega (arith, below, c.loop-self.auto.out, c.requires.room, ap (λ k. k * p.channels) at_end))))
+    let from = now.standing.from in
+    let need = c.in_err-render_next_span.field-0.0 in
+    let did = c.in_err-render_next_span.ensures.need in
+    let e = err_from_is_err_and c.from_residual.result c.from_residual.ensures.1 in
+    rw (e.1, e.2) (
+      subst (λ (cs : List SceneClipData). ReadsPage cs p.scene.value c.args.start c.args.end need.resource need.page) now.clips
+          (subst (λ (s : SceneData). ReadsPage q.clips.items s c.args.start c.args.end need.resource need.page) now.scene
+          (reads_before q.clips.items q.scene.value c.args.start q.time c.args.end c.args.end need.resource need.page from (omega arith) did.0)),
+      not_shown_of p.tapes.items q.tapes.items new.tapes.items need.resource need.page need.shown now.tapes did.1,
+    )

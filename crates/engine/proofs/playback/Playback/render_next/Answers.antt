@@ -3,6 +3,7 @@ use Rattle.scene_model.specs.PlanData.{PlanData}
 use Rattle.scene_model.specs.Reach.{HasNoCycle}
 use Rattle.mix_model.specs.OrderedBuses.{mark_at}
 use Rattle.mix_model.specs.Pulled.{pulled}
+use Rattle.resource_mgr.proofs.Tapes.{laters_refl}
 use Rattle.engine.specs.declared.playback.Playback.{Playback}
 use Rattle.engine.specs.Nodes.{IsOrderOf}
 use Rattle.engine.specs.Span.{node_places}
@@ -21,9 +22,18 @@ returns-clause-next c = λ s k span inside here kept.
     let none : HasNoCycle s.first.plan.buses = subst (λ (q : PlanData). HasNoCycle q.buses) (sym span.plan_is) c.requires.playable.plan_is.no_cycle in
     let order : IsOrderOf s.first.plan p.order.items = subst (λ (q : PlanData). IsOrderOf q p.order.items) (sym span.plan_is) c.requires.playable.order_is in
     let feeds = feeds_kept s places k n p.order.items p.room.kept.items none order inside here pulls_here kept in
-    let are = c.render_node.ensures.outputs s span pulls feeds in
-    let wide : c.args.count * c.render_node.new.self.channels ≡ places = ap (λ (q : Playback). c.args.count * q.channels) c.render_node.ensures.same in
+    let are = c.in_ok-render_node.ensures.outputs s span feeds in
+    let wide : c.args.count * c.render_node.new.self.channels ≡ places = ap (λ (q : Playback). c.args.count * q.channels) c.in_ok-render_node.ensures.same in
     let most : places ≤ node_places = few_places c.args.count p.channels c.requires.few c.requires.playable.channels_most in
     node_kept s places k n p.order.items p.room.kept.items c.keep.new.self.kept.items c.render_node.new.self.room.samples.items most here
     (λ j below. c.keep.ensures.here j (omega (arith, below, wide)))
-    (λ m j apart below. c.keep.ensures.others m j apart below ∙ ap (λ (xs : List ℤ). at xs (m * node_places + j)) c.render_node.ensures.kept) are kept
+    (λ m j apart below. c.keep.ensures.others m j apart below ∙ ap (λ (xs : List ℤ). at xs (m * node_places + j)) c.in_ok-render_node.ensures.kept) are kept
+
+pub render_node-requires-clause-pulled : goal.render_node-requires-clause-pulled
+render_node-requires-clause-pulled c =
+    let p = c.args.self.now in
+    let marked : mark_at p.marks c.args.n ≡ true = search rules in
+    sym (c.requires.marked c.args.n c.requires.node) ∙ marked
+
+pub returns-then-not-self-n-clause-tapes : goal.returns-then-not-self-n-clause-tapes
+returns-then-not-self-n-clause-tapes c = laters_refl c.args.self.now.tapes.items

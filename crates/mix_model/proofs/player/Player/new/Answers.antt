@@ -8,7 +8,7 @@ use Rattle.scene_model.specs.Order.{in_order}
 use Rattle.scene_model.specs.Reach.{HasNoCycle}
 use Rattle.scene_model.specs.SceneData.{SceneData}
 use Rattle.scene_clips.specs.SceneClipData.{SceneClipData}
-use Rattle.mix_model.specs.Mix.{node_frames}
+use Rattle.scene_clips.specs.ClipFrames.{clip_length}
 use Rattle.mix_model.proofs.Deepening.{zeros_at}
 use Rattle.mix_model.proofs.Moments.{moment_start}
 use Rattle.mix_model.proofs.Starting.{channels_start}
@@ -32,7 +32,8 @@ returns-clause-before c =
         scene_is = is;
         edits_are = edits_are;
         channels_are = channels_start s (map (λ (x : ClipData). x.bytes) c.args.clips.now) clips c.in_ok-clips.ensures;
-        frames_are = λ n. c.clip_lengths-frames.ensures n ∙ ap (λ (cs : List SceneClipData). node_frames cs s n) c.as_slice-2.ensures.value;
+        frames_are = c.clip_lengths-frames.ensures clips
+            (c.as_slice-3.ensures.value ∙ c.in_ok-lengths.ensures ∙ ap (map (λ (k : SceneClipData). clip_length k.bytes k.rate)) c.as_slice-2.ensures.value);
       };
       time_most = omega arith;
       moment = rw c.in_ok-plan.ensures (moment_start clips s _ is (λ n. zeros_at _ (limits.most_nodes + 1) n refl));

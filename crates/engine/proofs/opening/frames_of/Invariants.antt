@@ -1,0 +1,6 @@
+use Rattle.std.proofs.Common.{take}
+use Rattle.mix_model.specs.Mix.{AreFramesOf}
+use Rattle.engine.proofs.opening.frames_of.Given as goal
+
+abbrev pub invariant-loop-k : goal.invariant-loop-k
+invariant-loop-k l = AreFramesOf (take l.k l.clips) l.frames.items

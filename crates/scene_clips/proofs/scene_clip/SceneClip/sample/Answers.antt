@@ -1,9 +1,0 @@
-use Rattle.scene_clips.proofs.Rates.{fit_length}
-use Rattle.scene_clips.proofs.scene_clip.SceneClip.sample.Goals as goal
-
-pub point-requires : goal.point-requires
-point-requires c =
-    let clip = c.self.inside.decoded in
-    let fit = c.self.inside.converter.conversion in
-    let kept = c.self.invariant in
-    rw (← fit_length clip.bytes clip.wave fit kept.surveyed kept.input_rate kept.frames) (rw (← c.self.view_is) at c.requires.frame)

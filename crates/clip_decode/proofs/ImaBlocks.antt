@@ -60,6 +60,13 @@ next_block spb frame i some full =
     let place : frame + i ≡ (frame / spb + 1) * spb + 0 = omega arith in
     ap (λ n. n % spb) place ∙ mod-mul-add (frame / spb + 1) spb 0 some
 
+-- the first frame of a frame's block
+pub block_start : (spb frame : ℕ) → 0 < spb → (frame - frame % spb) % spb ≡ 0
+block_start spb frame some =
+    let parts : frame / spb * spb + frame % spb ≡ frame = div-add-mod' frame spb in
+    let place : frame - frame % spb ≡ frame / spb * spb + 0 = omega arith in
+    ap (λ n. n % spb) place ∙ mod-mul-add (frame / spb) spb 0 some
+
 pub some_frames : (w : Wave) → 4 * w.channels ≤ w.align → 0 < frames_per_block w
 some_frames w small = omega (arith, block_frames-whole w.align w.channels small)
 

@@ -1,7 +1,12 @@
-ghost use Rattle.std.specs.Prelude.{◌≡◌, ℕ, List};
+ghost use Rattle.std.specs.Prelude.{◌≡◌, ◌<◌, ℕ, List};
 ghost use Rattle.clip_decode.specs.Cursors.{StandsAt};
+ghost use Rattle.clip_decode.specs.Pages.{page_count};
 
+use crate::clip::Clip;
+use crate::ima::ready_at;
+use crate::page::FRAMES_PER_PAGE;
 use ima_adpcm::Ima;
+use wave_read::Kind;
 
 /// The most channels that a sound has.
 const MAX_CHANNELS: usize = 8;
@@ -30,6 +35,27 @@ impl Cursor {
             page: 0,
             decoders: [decoder; MAX_CHANNELS],
         }
+    }
+
+    /// A cursor at page `number` of a clip, counted from 0, for clips of the same bytes. The number is
+    /// below that of the clip's pages.
+    ///
+    /// No memory is taken. For IMA ADPCM the block in which the page begins is decoded up to it; for
+    /// all other sounds nothing is read.
+    pub fn at(clip: &Clip, number: u64) -> Cursor
+        requires below { number < page_count clip.now.wave.frames }
+        ensures page { result.page ≡ number }
+        ensures stands { StandsAt clip.now.bytes result }
+    {
+        let bytes = clip.bytes();
+        let wave = clip.wave();
+        let mut cursor = Cursor::start();
+        cursor.page = number;
+        if wave.kind == Kind::Ima {
+            let frame = FRAMES_PER_PAGE * number;
+            ready_at(bytes, wave, frame, &mut cursor.decoders);
+        }
+        cursor
     }
 
     /// The number of the page that comes next, counted from 0.

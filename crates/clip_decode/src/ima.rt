@@ -1,4 +1,4 @@
-//! Frames of IMA ADPCM, from any frame on.
+//! Frames of IMA ADPCM, from any frame on, and the decoders at any frame.
 
 ghost use Rattle.std.specs.Prelude.{◌≡◌, ◌+◌, ◌-◌, ◌*◌, ◌<◌, ◌≤◌, ◌^◌, length};
 ghost use Rattle.clip_decode.specs.Cells.{Written};
@@ -119,5 +119,24 @@ pub fn ima_into(
             &mut scratch,
             out,
         );
+    }
+}
+
+/// Leaves `decoders` ready at a frame, whatever they were: the block that has it is decoded from its
+/// beginning up to there.
+pub fn ready_at(bytes: &[u8], wave: &Wave, frame: u64, decoders: &mut [Ima])
+    requires lawful { IsWaveOf bytes.now wave.now }
+    requires kind { wave.now.kind ≡ Kind.Ima }
+    requires there { frame ≤ wave.now.frames }
+    requires decoders { 8 ≤ length decoders.old }
+    ensures ready { ReadyAt bytes.now wave.now frame decoders.new }
+{
+    let mut unheard = [0i32; PART_CELLS];
+    let per_block = block_frames(wave.align as usize, wave.channels) as u64;
+    let mut at = frame - frame % per_block;
+    while at < frame {
+        let end = at + (frame - at).min(PART_FRAMES as u64);
+        ima_into(bytes, wave, at..end, decoders, &mut unheard);
+        at = end;
     }
 }

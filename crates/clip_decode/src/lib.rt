@@ -4,7 +4,7 @@
 //! `Wave`, so that nobody reads the headers again. The sound is decoded in [`pages`] of 8192 frames:
 //! [`fill`] writes the one at which a [`Cursor`] stands into a [`Page`] and moves the cursor on. It
 //! takes no memory and decodes each sample of a page once, also where a page begins inside a block
-//! of IMA ADPCM.
+//! of IMA ADPCM. [`Cursor::at`] is a cursor at any page.
 //!
 //! The definitions go by the kind of the sound: `specs/Pcm.antt`, `specs/G711.antt` and
 //! `specs/Ima.antt` say what the sample of a channel in a frame is, by their numbers, and

@@ -1,13 +1,14 @@
 -- A word and its first colon, and a numeral and its number.
-use Rattle.std.proofs.Common.{◌≡◌, ℕ, suc, ◌+◌, ◌<◌, ◌^◌, nat_lt, nat_le, Bool, true, false, ◌&&◌, not, List, [], ◌∷◌, ◌++◌, length, drop, get_or, Option, Some, None, ap₂, refl, subst, arith}
+use Rattle.std.proofs.Common.{◌≡◌, ℕ, suc, ◌+◌, ◌<◌, ◌≤◌, ◌^◌, nat_lt, nat_le, Bool, true, false, ◌&&◌, not, List, [], ◌∷◌, ◌++◌, length, drop, get_or, Option, Some, None, ap₂, refl, subst, arith}
 use Rattle.std.specs.Char.{is_ascii_digit}
 use Rattle.std.specs.List.{list_all, position_or_len, before_first, after_first}
 use Rattle.std.specs.Str.Parse.{digits_value}
-use Rattle.std.proofs.lemmas.Bool.{lt-ltb, ltb-true}
+use Rattle.std.proofs.lemmas.Bool.{lt-ltb, ltb-true, le-leb}
 use Rattle.std.proofs.lemmas.List.{take_at, length-append}
 use Rattle.std.proofs.lemmas.List.Sums.{split_at_first, passes_at_first}
 use Rattle.fx_nodes.specs.Forms.{IsNumber, colon}
-use Rattle.fx_nodes.specs.Words.{◌>>=◌, has_only_digits, is_colon, is_numeral, number, split_at_colon}
+use Rattle.plain_data.specs.Numbers.{has_only_digits, is_numeral}
+use Rattle.fx_nodes.specs.Words.{◌>>=◌, is_colon, most_digits, most_number, number, split_at_colon}
 
 pub both : (a b : Bool) → a && b ≡ true → (a ≡ true) × (b ≡ true)
 both true true is = (refl, refl)
@@ -68,15 +69,15 @@ unsplit word parts is = by_test (nat_lt (position_or_len is_colon word) (length 
 
 pub number_of : (word : List ℕ) (n : ℕ) → IsNumber word n → n < 2 ^ 32 → number word ≡ Some n
 unfolding number
-number_of word n is small = rw (is.numeral, is.value, lt-ltb n (2 ^ 32) small) refl
+number_of word n is small = let fits : n ≤ most_number = omega (arith, small) in rw (is.numeral, is.value, le-leb n most_number fits) refl
 
 pub number_read : (word : List ℕ) (n : ℕ) → number word ≡ Some n → IsNumber word n
 unfolding number
-number_read word n is = by_test (is_numeral word && nat_lt (digits_value 10 word) (2 ^ 32)) refl
+number_read word n is = by_test (is_numeral most_digits word && nat_le (digits_value 10 word) most_number) refl
   where
-    by_test : (b : Bool) → is_numeral word && nat_lt (digits_value 10 word) (2 ^ 32) ≡ b → IsNumber word n
-    by_test true test = record { numeral = (both (is_numeral word) _ test).0; value = some_same _ _ (rw test at is) }
+    by_test : (b : Bool) → is_numeral most_digits word && nat_le (digits_value 10 word) most_number ≡ b → IsNumber word n
+    by_test true test = record { numeral = (both (is_numeral most_digits word) _ test).0; value = some_same _ _ (rw test at is) }
     by_test false test = absurd (none_is _ (rw test at is))
 
 pub no_colon : (word : List ℕ) (n : ℕ) → IsNumber word n → list_all is_other word ≡ true
-no_colon word n is = digits_have_none word (both (nat_le 1 (length word) && nat_le (length word) 10) _ is.numeral).1
+no_colon word n is = digits_have_none word (both (nat_le 1 (length word) && nat_le (length word) most_digits) _ is.numeral).1

@@ -5,7 +5,6 @@ mod DelayLemmas
 mod FadeGains
 mod Lines
 mod Made
-mod Numerals
 mod Samples
 mod Slopes
 mod Values

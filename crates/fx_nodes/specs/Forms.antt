@@ -1,13 +1,14 @@
 -- The words that write effects, by their form.
 use Rattle.std.specs.Prelude.{◌≡◌, ℕ, codes, IsTrue, List, ◌∷◌, ◌++◌}
 use Rattle.std.specs.Str.Parse.{digits_value}
-use Rattle.fx_nodes.specs.Words.{is_numeral}
+use Rattle.plain_data.specs.Numbers.{is_numeral}
+use Rattle.fx_nodes.specs.Words.{most_digits}
 use Rattle.fx_nodes.specs.declared.effect.Effect.{Effect}
 use Rattle.fx_nodes.specs.declared.effect.Effect.TheVariants.{Delay, Pan, Fade, Level}
 
 -- a numeral, and its number
 pub record IsNumber (word : List ℕ) (n : ℕ) : Type 0 where
-  pub numeral : IsTrue (is_numeral word)
+  pub numeral : IsTrue (is_numeral most_digits word)
   pub value : digits_value 10 word ≡ n
 
 abbrev pub colon : ℕ

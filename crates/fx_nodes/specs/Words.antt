@@ -1,9 +1,8 @@
 -- Effects as words: a name and numbers, with colons between them.
-use Rattle.std.specs.Prelude.{ℕ, ◌^◌, ◌&&◌, ◌==◌, Bool, nat_le, nat_lt, if◌then◌else◌, codes, List, length, Option, Some, None}
-use Rattle.std.specs.Char.{is_ascii_digit}
-use Rattle.std.specs.List.{list_all, position_or_len, before_first, after_first}
+use Rattle.std.specs.Prelude.{ℕ, ◌==◌, Bool, nat_lt, if◌then◌else◌, codes, List, length, Option, Some, None}
+use Rattle.std.specs.List.{position_or_len, before_first, after_first}
 use Rattle.std.specs.Str.{bytes_eq}
-use Rattle.std.specs.Str.Parse.{digits_value}
+use Rattle.plain_data.specs.Numbers as numbers
 use Rattle.fx_nodes.specs.Effects.{is_in_range}
 use Rattle.fx_nodes.specs.declared.effect.Effect.{Effect}
 use Rattle.fx_nodes.specs.declared.effect.Effect.TheVariants.{Delay, Pan, Fade, Level}
@@ -22,16 +21,15 @@ unfoldable pub split_at_colon : List ℕ → Option (List ℕ × List ℕ)
 split_at_colon word =
     if nat_lt (position_or_len is_colon word) (length word) then Some (before_first is_colon word, after_first is_colon word) else None
 
-abbrev pub has_only_digits : List ℕ → Bool
-has_only_digits word = list_all is_ascii_digit word
+-- of a number: 1 to 10 digits, leading zeros among them, and 32 bits
+abbrev pub most_digits : ℕ
+most_digits = 10
 
--- 1 to 10 digits, leading zeros among them
-abbrev pub is_numeral : List ℕ → Bool
-is_numeral word = nat_le 1 (length word) && nat_le (length word) 10 && has_only_digits word
+abbrev pub most_number : ℕ
+most_number = 4294967295
 
--- the number of such a word, if it is one of 32 bits
 unfoldable pub number : List ℕ → Option ℕ
-number word = if is_numeral word && nat_lt (digits_value 10 word) (2 ^ 32) then Some (digits_value 10 word) else None
+number word = numbers.number most_digits most_number word
 
 -- FRAMES:DECAY
 unfoldable pub delay_of : List ℕ → Option Effect

@@ -21,7 +21,6 @@ mod effect;
 mod fader;
 mod gains;
 mod laws;
-mod numbers;
 mod panner;
 mod slope;
 mod stage;

@@ -5,7 +5,10 @@ ghost use Rattle.fx_nodes.specs.Effects.{is_in_range};
 ghost use Rattle.fx_nodes.specs.Words as spec;
 
 use crate::effect::Effect;
-use crate::numbers::read_number;
+use plain_data::read_number;
+
+/// The most digits of a number.
+const MAX_DIGITS: usize = 10;
 
 /// The effect that a word of one of these forms writes, if its numbers are within the limits of [`Effect`]:
 /// `delay:FRAMES:DECAY`, `pan:PLACE`, `fade:FROM:TO:FIRST:LAST`, `level:GAIN`. Each number has 1 to 10 digits, leading
@@ -50,8 +53,8 @@ fn read_delay(numbers: &str) -> Option<Effect>
 {
     let (frames, decay) = split_at_colon(numbers)?;
     Some(Effect::Delay {
-        frames: read_number(frames)?,
-        decay: read_number(decay)?,
+        frames: number(frames)?,
+        decay: number(decay)?,
     })
 }
 
@@ -60,7 +63,7 @@ fn read_pan(numbers: &str) -> Option<Effect>
     ensures { result ≡ spec.pan_of numbers.now }
 {
     Some(Effect::Pan {
-        place: read_number(numbers)?,
+        place: number(numbers)?,
     })
 }
 
@@ -72,10 +75,10 @@ fn read_fade(numbers: &str) -> Option<Effect>
     let (to, gains) = split_at_colon(rest)?;
     let (first, last) = split_at_colon(gains)?;
     Some(Effect::Fade {
-        from: read_number(from)?,
-        to: read_number(to)?,
-        first: read_number(first)?,
-        last: read_number(last)?,
+        from: number(from)?,
+        to: number(to)?,
+        first: number(first)?,
+        last: number(last)?,
     })
 }
 
@@ -84,7 +87,7 @@ fn read_level(numbers: &str) -> Option<Effect>
     ensures { result ≡ spec.level_of numbers.now }
 {
     Some(Effect::Level {
-        gain: read_number(numbers)?,
+        gain: number(numbers)?,
     })
 }
 
@@ -94,4 +97,12 @@ fn split_at_colon(word: &str) -> Option<(&str, &str)>
     ensures { option_map (λ parts. (parts.0.now, parts.1.now)) result ≡ spec.split_at_colon word.now }
 {
     word.split_once(':')
+}
+
+/// The number of a word of 1 to 10 digits, leading zeros among them, if it has 32 bits.
+#[tactic(auto, unfolding(crate::specs::Words::number))]
+fn number(word: &str) -> Option<u32>
+    ensures { result ≡ spec.number word.now }
+{
+    read_number(word, MAX_DIGITS, u32::MAX)
 }

@@ -45,9 +45,25 @@ pub fn mean(samples: &[i32]) -> i32
     ensures mean { result ≡ mean samples.now }
     ensures range { All Is24 samples.now → Is24 result }
 {
-    let mut sum: i64 = 0;
-    for sample in samples {
-        sum += i64::from(*sample);
+    // By a count that the compiler knows there is no loop and no division.
+    match samples.len() {
+        8 => mean_of(samples, 8),
+        2 => mean_of(samples, 2),
+        count => mean_of(samples, count),
     }
-    floor_quotient(sum, samples.len() as u32) as i32
+}
+
+/// The mean of `count` samples.
+fn mean_of(samples: &[i32], count: usize) -> i32
+    requires count { count ≡ length samples.now }
+    requires some { 1 ≤ count }
+    requires most { count ≤ 8 }
+    ensures mean { result ≡ mean samples.now }
+    ensures range { All Is24 samples.now → Is24 result }
+{
+    let mut sum: i64 = 0;
+    for k in 0..count {
+        sum += i64::from(samples[k]);
+    }
+    floor_quotient(sum, count as u32) as i32
 }

@@ -1,6 +1,6 @@
 //! The frames of a file, as its pages have them.
 
-ghost use Rattle.std.specs.Prelude.{◌≡◌, ◌+◌, ◌/◌, ◌%◌, ◌<◌, ◌≤◌, ℕ, pos, length, slice_index_or, All, take, drop};
+ghost use Rattle.std.specs.Prelude.{◌≡◌, ◌+◌, ◌/◌, ◌%◌, ◌^◌, ◌<◌, ◌≤◌, ℕ, pos, length, slice_index_or, All, take, drop};
 ghost use Rattle.clip_decode.specs.Frames.{frames};
 ghost use Rattle.mix_fixed.specs.Sound.{Is24};
 ghost use Rattle.wave_read.specs.Wave.{wave};
@@ -73,9 +73,32 @@ impl FileFrames {
         &self.wave
     }
 
-    /// The frame of number `n`, counted from 0: one sample of 24 bits a channel of the file, which
-    /// has 1 to 8. After the last frame of the file stands a frame of 0. Its page is there.
-    pub(crate) fn frame<'a>(&self, pages: &'a [Option<Page>], n: u64) -> &'a [i32]
+    /// The frame of number `n`, counted from 0, and the next one: one sample of 24 bits a channel of the file, which
+    /// has 1 to 8. After the last frame of the file stand frames of 0. Their pages are there.
+    pub(crate) fn frame_and_next<'a>(
+        &self,
+        pages: &'a [Option<Page>],
+        n: u64,
+    ) -> (&'a [i32], &'a [i32])
+        requires near { n < 2 ^ 62 }
+        requires first { n < self.now.wave.frames → AreThere self.now.bytes pages.now (n / 8192 + 1) }
+        requires next { n + 1 < self.now.wave.frames → AreThere self.now.bytes pages.now ((n + 1) / 8192 + 1) }
+        ensures first { result.0.now ≡ frame_or_silence self.now.wave.channels (frames self.now.bytes) n }
+        ensures next { result.1.now ≡ frame_or_silence self.now.wave.channels (frames self.now.bytes) (n + 1) }
+        ensures least { (1 ≤ length result.0.now) × (1 ≤ length result.1.now) }
+        ensures most { (length result.0.now ≤ 8) × (length result.1.now ≤ 8) }
+        ensures range { All (λ sample. Is24 sample) result.0.now × All (λ sample. Is24 sample) result.1.now }
+    {
+        let next = n + 1;
+        if next >= self.wave.frames || next % FRAMES_PER_PAGE == 0 {
+            return (self.frame(pages, n), self.frame(pages, next));
+        }
+        let page = self.page(pages, n / FRAMES_PER_PAGE);
+        (self.frame_of(page, n), self.frame_of(page, next))
+    }
+
+    /// Frame `n`, whose page is there, or one of 0 past the end.
+    fn frame<'a>(&self, pages: &'a [Option<Page>], n: u64) -> &'a [i32]
         requires { n < self.now.wave.frames → AreThere self.now.bytes pages.now (n / 8192 + 1) }
         ensures value { result.now ≡ frame_or_silence self.now.wave.channels (frames self.now.bytes) n }
         ensures least { 1 ≤ length result.now }
@@ -83,11 +106,23 @@ impl FileFrames {
         ensures range { All (λ sample. Is24 sample) result.now }
     {
         let wave = self.wave();
-        let count = usize::from(wave.channels);
         if n >= wave.frames {
-            return frame_at(SILENCE, 0, count);
+            return frame_at(SILENCE, 0, usize::from(wave.channels));
         }
-        let page = self.page(pages, n / FRAMES_PER_PAGE);
+        self.frame_of(self.page(pages, n / FRAMES_PER_PAGE), n)
+    }
+
+    /// Frame `n`, below the number of the file's frames, in its page.
+    fn frame_of<'a>(&self, page: &'a Page, n: u64) -> &'a [i32]
+        requires below { n < self.now.wave.frames }
+        requires page { page.now ≡ file_page self.now.bytes (n / 8192) }
+        ensures value { result.now ≡ frame_or_silence self.now.wave.channels (frames self.now.bytes) n }
+        ensures least { 1 ≤ length result.now }
+        ensures most { length result.now ≤ 8 }
+        ensures range { All (λ sample. Is24 sample) result.now }
+    {
+        let wave = self.wave();
+        let count = usize::from(wave.channels);
         let place = (n % FRAMES_PER_PAGE) as usize * count;
         frame_at(page.samples(), place, count)
     }

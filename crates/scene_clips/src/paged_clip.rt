@@ -195,11 +195,7 @@ impl PagedClip {
             result ≡ clip_sample self.now.bytes self.now.rate self.now.channels n channel }
         ensures range { Is24 result }
     {
-        let first = self.file.frame(pages, point.first);
-        if point.weight == 0 {
-            return self.converter.sample(first, first, 0, channel);
-        }
-        let second = self.file.frame(pages, point.first + 1);
+        let (first, second) = self.file.frame_and_next(pages, point.first);
         self.converter.sample(first, second, point.weight, channel)
     }
 
@@ -216,11 +212,7 @@ impl PagedClip {
         ensures left_range { Is24 result.0 }
         ensures right_range { Is24 result.1 }
     {
-        let first = self.file.frame(pages, point.first);
-        if point.weight == 0 {
-            return self.converter.pair(first, first, 0);
-        }
-        let second = self.file.frame(pages, point.first + 1);
+        let (first, second) = self.file.frame_and_next(pages, point.first);
         self.converter.pair(first, second, point.weight)
     }
 }

@@ -2,6 +2,5 @@ pub mod Lines
 pub mod MixOutcomes
 pub mod NamedClips
 pub mod NamedFiles
-pub mod Numbers
 pub mod Outcomes
 pub mod Sets

@@ -1,9 +1,9 @@
 -- The words after the program's name, as a command. Words are counted from 0.
 use Rattle.std.specs.Prelude.{ℕ, Bool, ◌&&◌, ◌||◌, ◌==◌, nat_le, if◌then◌else◌, List, [], ◌∷◌, length, codes, Option, Some, None, Result, Ok, Err}
 use Rattle.std.specs.List.{list_all}
-use Rattle.std.specs.Char.{is_ascii_alphanumeric, is_ascii_digit}
+use Rattle.std.specs.Char.{is_ascii_alphanumeric}
 use Rattle.std.specs.Str.{bytes_eq}
-use Rattle.std.specs.Str.Parse.{digits_value}
+use Rattle.plain_data.specs.Numbers.{number}
 
 -- the bytes of a path
 abbrev pub most_path_bytes : ℕ
@@ -27,17 +27,6 @@ has_only_prefix_bytes word = list_all is_prefix_byte word
 -- what the names of generated files begin with: 1 to 64 bytes of that form
 abbrev pub is_prefix : List ℕ → Bool
 is_prefix word = nat_le 1 (length word) && nat_le (length word) most_prefix_bytes && has_only_prefix_bytes word
-
-abbrev pub has_only_digits : List ℕ → Bool
-has_only_digits word = list_all is_ascii_digit word
-
--- 1 to so many digits, leading zeros among them
-abbrev pub is_numeral : ℕ → List ℕ → Bool
-is_numeral digits word = nat_le 1 (length word) && nat_le (length word) digits && has_only_digits word
-
--- the number of such a word, if it is at most the limit
-abbrev pub number : ℕ → ℕ → List ℕ → Option ℕ
-number digits limit word = if is_numeral digits word && nat_le (digits_value 10 word) limit then Some (digits_value 10 word) else None
 
 -- NUMBER of `gen`
 abbrev pub most_number_digits : ℕ

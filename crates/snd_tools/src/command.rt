@@ -2,7 +2,8 @@ ghost use Rattle.std.specs.Prelude.{◌≡◌, map, string_bytes};
 ghost use Rattle.snd_tools.specs.Commands.{Scenetool, mix_words, info_words, gen_words, command};
 ghost use Rattle.snd_tools.specs.CommandsRead.{GivesCommand};
 
-use crate::words::{MAX_NUMBER, MAX_NUMBER_DIGITS, is_path, is_prefix, read_number};
+use crate::words::{MAX_NUMBER, MAX_NUMBER_DIGITS, is_path, is_prefix};
+use plain_data::read_number;
 
 /// What the words after the program's name ask for.
 #[derive(Clone, Copy)]

@@ -2,7 +2,8 @@ ghost use Rattle.std.specs.Prelude.{map, string_bytes, ◌≤◌, IfOk};
 ghost use Rattle.snd_tools.specs.Commands.{Scenerender, command, most_workers, render_words};
 ghost use Rattle.snd_tools.specs.CommandsRead.{GivesCommandBy, said_render};
 
-use crate::words::{is_path, read_number};
+use crate::words::is_path;
+use plain_data::read_number;
 
 /// The most digits of WORKERS.
 const MAX_WORKERS_DIGITS: usize = 2;

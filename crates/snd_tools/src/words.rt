@@ -1,4 +1,4 @@
-ghost use Rattle.std.specs.Prelude.{◌≡◌, nat_le, Some, None, if◌then◌else◌};
+ghost use Rattle.std.specs.Prelude.{◌≡◌};
 ghost use Rattle.snd_tools.specs.Commands as spec;
 
 /// The most bytes of a path.
@@ -36,35 +36,4 @@ fn is_prefix_byte(byte: u8) -> bool
     ensures { result ≡ spec.is_prefix_byte byte }
 {
     byte.is_ascii_alphanumeric() || matches!(byte, b'_' | b'-' | b'.' | b'/')
-}
-
-/// The number of a word of 1 to `digits` digits, leading zeros among them, if it is at most `limit`.
-pub(crate) fn read_number(word: &str, digits: usize, limit: u32) -> Option<u32>
-    ensures { result ≡ spec.number digits limit word.now }
-{
-    if !is_numeral(word, digits) {
-        return None;
-    }
-    match word.parse::<u32>() {
-        Ok(number) => at_most(number, limit),
-        Err(_) => None,
-    }
-}
-
-fn at_most(number: u32, limit: u32) -> Option<u32>
-    ensures { result ≡ (if nat_le number limit then Some number else None) }
-{
-    if number <= limit { Some(number) } else { None }
-}
-
-fn is_numeral(word: &str, digits: usize) -> bool
-    ensures { result ≡ spec.is_numeral digits word.now }
-{
-    1 <= word.len() && word.len() <= digits && has_only_digits(word)
-}
-
-fn has_only_digits(word: &str) -> bool
-    ensures { result ≡ spec.has_only_digits word.now }
-{
-    word.bytes().all(|byte| byte.is_ascii_digit())
 }

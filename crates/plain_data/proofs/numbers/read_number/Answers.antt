@@ -1,6 +1,7 @@
+-- A numeral is read to its number.
 use Rattle.std.proofs.Common.{◌∙◌, sym, arith}
-use Rattle.snd_tools.proofs.Numbers.{read-number, read-none}
-use Rattle.snd_tools.proofs.words.read_number.Goals as goal
+use Rattle.plain_data.proofs.Numerals.{read-number, read-none}
+use Rattle.plain_data.proofs.numbers.read_number.Goals as goal
 
 pub returns-in-Ok : goal.returns-in-Ok
 returns-in-Ok c =

@@ -6,7 +6,7 @@ use Rattle.std.specs.Str.Parse.{digits_value, ParsesUnsigned}
 use Rattle.std.specs.Result.{OkIff, result_ok}
 use Rattle.std.proofs.lemmas.Str.Parse.{numerals_by_value, tells_all_ascii_digits, parse_digits}
 use Rattle.std.proofs.lemmas.Bool.{lt-ltb, le-ltb, ltb-true, ltb-false, leb-true, lt-leb}
-use Rattle.snd_tools.specs.Commands.{is_numeral, has_only_digits, number}
+use Rattle.plain_data.specs.Numbers.{is_numeral, has_only_digits, number}
 
 same-test : (word : List ℕ) → has_only_digits word ≡ all_ascii_digits word
 same-test [] = refl

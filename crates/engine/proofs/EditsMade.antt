@@ -1,12 +1,14 @@
 -- What edits leave as it was in a playback.
-use Rattle.std.proofs.Common.{◌≡◌, ℕ, ◌*◌, ◌<◌, ◌≤◌, List, [], ◌∷◌, length, map, get_or, Option, Some, None, ◌⊎◌, inl, inr, refl, sym, ◌∙◌, ap, subst, arith}
-use Rattle.std.specs.Prelude.{All, fold, slice_get, slice_index}
+use Rattle.std.proofs.Common.{◌≡◌, ℕ, ◌*◌, ◌<◌, ◌≤◌, List, [], ◌∷◌, length, map, get_or, Bool, true, false, Option, Some, None, ◌⊎◌, inl, inr, refl, sym, ◌∙◌, ap, subst, arith}
+use Rattle.std.specs.Prelude.{All, Contains, fold, slice_get, slice_index, if◌then◌else◌}
 use Rattle.std.specs.Option.{option_map_or}
 use Rattle.std.specs.List.Sorted.{IsPermutation}
 use Rattle.std.proofs.lemmas.List.{get_or-map, length-map}
 use Rattle.std.proofs.lemmas.Option.{slice_get_cases}
 use Rattle.scene_clips.specs.SceneClipData.{SceneClipData}
 use Rattle.scene_model.specs.declared.edit.Edit.{Edit}
+use Rattle.scene_model.specs.declared.edit.Edit.TheVariants.{Attach, Detach, SetGain, Start, Stop, From, Until, Seek, Loop}
+use Rattle.scene_model.specs.declared.bus.Bus.{Bus}
 use Rattle.scene_model.specs.declared.bus_row.BusRow.{BusRow}
 use Rattle.scene_model.specs.declared.node.Node.{Node}
 use Rattle.scene_model.specs.declared.node.NodeKind.{NodeKind}
@@ -14,7 +16,7 @@ use Rattle.scene_model.specs.declared.node_state.NodeState.{NodeState}
 use Rattle.scene_model.specs.IsPlan.{IsPlan, kinds, output_of}
 use Rattle.scene_model.specs.Opening.{state_of, unwired, row_edits, after_row, opening}
 use Rattle.scene_model.specs.PlanData.{PlanData}
-use Rattle.scene_model.specs.Plans.{after}
+use Rattle.scene_model.specs.Plans.{after, is_done, made, reply}
 use Rattle.scene_model.specs.SceneData.{SceneData}
 use Rattle.scene_model.proofs.Kept.{kinds_after, outputs_after}
 use Rattle.scene_model.proofs.PlanStays.{length-after_row}
@@ -25,6 +27,7 @@ use Rattle.mix_model.proofs.ScenePlans.{nodes_run}
 use Rattle.resource_mgr.specs.Tapes.{files_of}
 use Rattle.engine.specs.declared.playback.Playback.{Playback}
 use Rattle.engine.specs.declared.room.Room.{Room}
+use Rattle.engine.specs.Edits.{is_of_bus}
 use Rattle.engine.specs.Nodes.{IsOrderOf, IsPlayable}
 use Rattle.engine.specs.Room.{IsRoomFor}
 
@@ -108,3 +111,30 @@ playable_again p r es is stage clips channels frames room tapes plan most order 
       ordered = ordered;
       room_is = subst (λ (x : Room). IsRoomFor r.stage x) (sym room) (room_kept p.stage r.stage p.room nodes buses is.room_is);
     }
+
+buses_made : (p : PlanData) (e : Edit) → is_of_bus e ≡ false → (made p e).buses ≡ p.buses
+buses_made p (Attach node out to) of_node = cc
+buses_made p (Detach node out) of_node = cc
+buses_made p (SetGain node out gain) of_node = cc
+buses_made p (Start node) of_node = refl
+buses_made p (Stop node) of_node = refl
+buses_made p (From node value) of_node = refl
+buses_made p (Until node value) of_node = refl
+buses_made p (Seek node place) of_node = refl
+buses_made p (Loop node on) of_node = refl
+
+kept_if : (b : Bool) (p q : PlanData) → q.buses ≡ p.buses → (if b then q else p).buses ≡ p.buses
+kept_if true p q same = same
+kept_if false p q same = refl
+
+-- edits of nodes leave the buses as they are
+pub buses_after : (p : PlanData) (e : Edit) → is_of_bus e ≡ false → (after p e).buses ≡ p.buses
+buses_after p e of_node = kept_if (is_done (reply p e)) p (made p e) (buses_made p e of_node)
+
+-- an order of the nodes depends on their number and on the buses
+pub order_kept : (p q : PlanData) (order : List ℕ) → length q.nodes ≡ length p.nodes → q.buses ≡ p.buses → IsOrderOf p order → IsOrderOf q order
+order_kept p q order nodes buses is = record {
+  numbers = subst (λ count. All (λ n. n < count) order) (sym nodes) is.numbers;
+  whole = λ n below. is.whole n (omega (arith, below, nodes));
+  behind = λ k b inside among to. is.behind k b inside (subst (λ bs. Contains bs b) buses among) to;
+}

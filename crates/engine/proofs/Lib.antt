@@ -1,6 +1,7 @@
 pub mod Appending
 pub mod BlockEnds
 pub mod BlockFrames
+pub mod BlockLengths
 pub mod CachedRuns
 pub mod CursorsWithin
 pub mod Edges

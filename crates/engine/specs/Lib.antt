@@ -1,4 +1,6 @@
 pub mod Cached
+pub mod DecodingDesks
+pub mod Edits
 pub mod FeedRoom
 pub mod Needs
 pub mod Nodes

@@ -20,6 +20,10 @@ pub record RendererData : Type 0 where
   pub next : Option ℕ
   pub ready : Bool
 
+-- a renderer of a scene before its first frame
+abbrev pub at_first_frame : SceneData → List Tape → RendererData
+at_first_frame s tapes = record { scene = s; tapes = tapes; clock = 0; next = None; ready = false }
+
 -- the clips that a renderer plays
 abbrev pub clips_heard : RendererData → List SceneClipData
 clips_heard r = clips_of r.scene (files_of r.tapes)

@@ -6,6 +6,7 @@ ghost use Rattle.mix_model.specs.Mix.{frame_state};
 ghost use Rattle.mix_model.specs.Pulled.{endpoint};
 ghost use Rattle.mix_model.specs.Signals.{input};
 ghost use Rattle.mix_model.specs.Spans.{IsSteady};
+ghost use Rattle.scene_model.specs.IsPlan.{IsPlan};
 ghost use Rattle.scene_model.specs.Order.{in_order};
 ghost use Rattle.scene_model.specs.Times.{plan};
 ghost use Rattle.resource_mgr.specs.Tapes.{AreLater};
@@ -18,9 +19,22 @@ use crate::need::Need;
 use crate::order::put_in_order;
 use crate::playback::Playback;
 use crate::steady::span_end;
+use node_graph::Stage;
+use scene_model::Plan;
 
 /// The most frames of a block.
 const BLOCK_FRAMES: u32 = 512;
+
+/// The plan of a stage, which keeps its limits.
+fn lawful_plan(stage: &Stage) -> &Plan
+    ensures value { result.now ≡ stage.now }
+    ensures lawful { IsPlan stage.now }
+{
+    let plan = stage.plan();
+    // Its nodes say that it keeps them.
+    let _nodes = plan.nodes();
+    plan
+}
 
 impl Playback {
     /// Makes the edits of the frame. It takes no memory.
@@ -33,7 +47,7 @@ impl Playback {
         let edits = self.edits.as_slice();
         let frames = self.frames.as_slice();
         let cursors = self.cursors.as_mut_slice();
-        let place = make_due(
+        let made = make_due(
             edits,
             self.place,
             self.time,
@@ -41,9 +55,9 @@ impl Playback {
             frames,
             cursors,
         );
-        if place != self.place {
-            self.place = place;
-            let plan = self.stage.plan();
+        self.place = made.next;
+        let plan = lawful_plan(&self.stage);
+        if made.buses {
             let (order, buses) = (self.order.as_mut_slice(), self.ordered_buses.as_mut_slice());
             put_in_order(plan, order, buses);
         }

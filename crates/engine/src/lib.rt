@@ -19,20 +19,25 @@
 //! takes memory.
 //!
 //! [`mix`] renders a scene on the calling thread and sets a file of a store to its WAVE file, block by block
-//! (`out_file.rt`): the bytes that `mix_model`'s plain mix writes, which computes each frame by itself. [`render`] sets it to the same bytes, and has the clips decoded by several threads.
+//! (`out_file.rt`, over the pieces of [`open_file`]): the bytes that `mix_model`'s plain mix writes, which computes each frame by itself.
+//! [`render`] sets it to the same bytes, while other threads decode the clips (`decoding_desk.rt`).
 #![tactic(auto)]
 
 mod advance;
 mod block;
 mod cached_clip;
+mod decoding_desk;
 mod edits;
 mod feeds;
 mod kept_frames;
+mod laws;
 mod need;
 mod nodes;
+pub mod open_file;
 mod opening;
 mod order;
 mod out_file;
+mod page_source;
 mod playback;
 mod renderer;
 mod rendering;
@@ -42,6 +47,7 @@ mod sounds;
 mod span;
 mod steady;
 
+pub use laws::a_block_has_one_length;
 pub use need::Need;
 pub use renderer::Renderer;
 pub use rendering::{mix, render};

@@ -5,7 +5,7 @@ ghost use Rattle.clip_decode.specs.Frames.{interleaved};
 ghost use Rattle.mix_model.specs.Mix.{frames_from};
 ghost use Rattle.resource_mgr.specs.Tapes.{AreLater};
 ghost use Rattle.engine.specs.Playing.{IsBefore, IsBlock};
-ghost use Rattle.engine.specs.RendererData.{IsAtBlock, IsNeedOf, clips_heard};
+ghost use Rattle.engine.specs.RendererData.{IsAtBlock, IsNeedOf, at_first_frame, clips_heard};
 ghost use Rattle.engine.specs.Span.{node_places};
 
 use crate::feeds::NODE_PLACES;
@@ -50,7 +50,7 @@ impl Renderer {
     ///
     /// [`OutOfMemory`] where there is no memory; nothing has changed then.
     pub fn open(alloc: Global, scene: &Scene, tapes: Vec<Tape>) -> Result<Renderer, OutOfMemory>
-        ensures { IfOk result (λ r. r ≡ record { scene = scene.now; tapes = tapes.items; clock = 0; next = None; ready = false }) }
+        ensures { IfOk result (λ r. r ≡ at_first_frame scene.now tapes.items) }
     {
         let playback = Playback::open(alloc, scene, tapes)?;
         let samples = vec![in alloc; 0i32; NODE_PLACES]?;

@@ -1,11 +1,11 @@
 -- A stage, and those behind it.
-use Rattle.std.proofs.Common.{◌≡◌, ℕ, ◌+◌, ◌*◌, ◌<◌, ◌++◌, ◌∙◌, ℤ, List, [], ◌∷◌, length, take, get_or, ap, ap₂, refl, subst, sym}
-use Rattle.std.proofs.lemmas.List.{map-append, take_more}
+use Rattle.std.proofs.Common.{◌≡◌, ℕ, ◌+◌, ◌*◌, ◌<◌, ◌++◌, ◌∙◌, ℤ, List, [], ◌∷◌, length, take, drop, get_or, ap, ap₂, refl, subst, sym}
+use Rattle.std.proofs.lemmas.List.{map-append, take_at, take_more}
 use Rattle.fx_nodes.specs.Effects.{chain_value, effect_value}
 use Rattle.fx_nodes.specs.Stages.{HasTaken, HaveTaken, effect_of, effects_of}
 use Rattle.fx_nodes.specs.declared.effect.Effect.{Effect}
 use Rattle.fx_nodes.specs.declared.stage.Stage.{Stage}
-use Rattle.fx_nodes.proofs.Values.{length-effect_value}
+use Rattle.fx_nodes.proofs.Values.{length-effect_value, value_begins}
 
 pub chain_steps : (stage stage' : Stage) (stages stages' : List Stage) (start : ℕ) (taken ys mid zs : List ℤ) → effect_of stage' ≡ effect_of stage
     → ((xs : List ℤ) → length xs ≡ 2 * start → HasTaken stage xs
@@ -40,3 +40,15 @@ effects_more stages stage effects i d inside are is = map-append effect_of stage
 pub length-chain_value : (effects : List Effect) (frames : List ℤ) → length (chain_value effects frames) ≡ length frames
 length-chain_value [] frames = refl
 length-chain_value (e ∷ effects) frames = length-chain_value effects (effect_value e frames) ∙ length-effect_value e frames
+
+-- what effects make of the first frames stays, whichever frames follow
+pub chain_begins : (effects : List Effect) (xs ys : List ℤ) → (zs : List ℤ) × (chain_value effects (xs ++ ys) ≡ chain_value effects xs ++ zs)
+chain_begins [] xs ys = (ys, refl)
+chain_begins (e ∷ effects) xs ys =
+    let more = chain_begins effects (effect_value e xs) (drop (length xs) (effect_value e (xs ++ ys))) in
+    (more.0, ap (chain_value effects) (value_begins e xs ys) ∙ more.1)
+
+pub first_frames : (effects : List Effect) (xs ys : List ℤ) → take (length xs) (chain_value effects (xs ++ ys)) ≡ chain_value effects xs
+first_frames effects xs ys =
+    let begins = chain_begins effects xs ys in
+    ap (take (length xs)) begins.1 ∙ take_at (chain_value effects xs) begins.0 (length xs) (length-chain_value effects xs)

@@ -1,4 +1,4 @@
-mod Chained
+pub mod Chained
 mod Colons
 mod Cuts
 mod DelayLemmas

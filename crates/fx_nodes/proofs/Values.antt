@@ -1,7 +1,7 @@
 -- What an effect makes of frames that follow others.
-use Rattle.std.proofs.Common.{◌≡◌, ◌⊎◌, inl, inr, ℕ, ◌+◌, ◌-◌, ◌*◌, ◌/◌, ◌%◌, ◌<◌, ◌≤◌, ◌++◌, ◌∙◌, ℤ, pos, ◌+ℤ◌, List, length, ap, ap₂, sym, refl, arith}
+use Rattle.std.proofs.Common.{◌≡◌, ◌⊎◌, inl, inr, ℕ, ◌+◌, ◌-◌, ◌*◌, ◌/◌, ◌%◌, ◌<◌, ◌≤◌, ◌++◌, ◌∙◌, ℤ, pos, ◌+ℤ◌, List, length, drop, ap, ap₂, sym, refl, arith}
 use Rattle.std.proofs.lemmas.Bool.{cases_lt}
-use Rattle.std.proofs.lemmas.List.{ext_get_or, get_or_append_left, get_or-append-add, length-append}
+use Rattle.std.proofs.lemmas.List.{ext_get_or, get_or_append_left, get_or-append-add, get_or-drop, length-append, length-drop}
 use Rattle.std.proofs.lemmas.List.FromFn.{length-map-range_with_len, get_or-map-range_with_len}
 use Rattle.mix_fixed.specs.Sound.{sat24, scale}
 use Rattle.fx_nodes.specs.Effects.{channel, delayed, effect_value, fade_gain, fx, pan_gain}
@@ -53,6 +53,14 @@ appended e xs ys zs len is = ext_get_or (pos 0) _ _ lengths at
 
     at : (s : ℕ) → s < length (effect_value e (xs ++ ys)) → sample (effect_value e (xs ++ ys)) s ≡ sample (effect_value e xs ++ zs) s
     at s inside = by_part s (rw length-effect_value at inside) (cases_lt s (length xs))
+
+-- what it makes of the first frames stays, whichever frames follow
+pub value_begins : (e : Effect) (xs ys : List ℤ) → effect_value e (xs ++ ys) ≡ effect_value e xs ++ drop (length xs) (effect_value e (xs ++ ys))
+value_begins e xs ys =
+    let all = effect_value e (xs ++ ys) in
+    let rest : length (drop (length xs) all) ≡ length ys = omega (arith, length-drop (length xs) all, length-effect_value e (xs ++ ys), length-append xs ys) in
+    appended e xs ys (drop (length xs) all) rest
+    (λ k below. get_or-drop (length xs) all k (pos 0) ∙ effect_value_at e (xs ++ ys) (length xs + k) (omega (arith, below, length-append xs ys)))
 
 -- the sample behind the others is the first of the new ones
 behind : (xs ys : List ℤ) (start k : ℕ) → length xs ≡ 2 * start → channel (xs ++ ys) ((length xs + k) % 2) ((length xs + k) / 2) ≡ sample ys k

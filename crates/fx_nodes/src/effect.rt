@@ -38,6 +38,19 @@ pub enum Effect {
     },
 }
 
+/// A level of 1.0, which leaves frames as they are.
+impl Default for Effect {
+    ghost use Rattle.std.specs.Prelude.{◌≡◌};
+    ghost use Rattle.mix_fixed.specs.Sound.{unity_gain};
+    ghost use Rattle.fx_nodes.specs.declared.effect.Effect.TheVariants.{Level};
+
+    ghost is_default = { λ effect. effect ≡ Level unity_gain };
+
+    fn default() -> Effect {
+        Effect::Level { gain: UNITY_GAIN }
+    }
+}
+
 impl Effect {
     /// Whether all numbers are within the limits of their kind.
     pub fn is_in_range(self) -> bool

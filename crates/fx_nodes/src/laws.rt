@@ -1,6 +1,6 @@
 //! Laws of the definitions that [`Chain`](crate::Chain) meets, for crates that stand on it. The functions do nothing.
 
-ghost use Rattle.std.specs.Prelude.{◌≡◌, ℕ, ◌+◌, ◌-◌, ◌*◌, ◌/◌, ◌%◌, ◌<◌, ◌≤◌, ℤ, pos, ◌+ℤ◌, ◌-ℤ◌, ◌*ℤ◌, [], List, length, IsTrue, Some};
+ghost use Rattle.std.specs.Prelude.{◌≡◌, ℕ, ◌+◌, ◌-◌, ◌*◌, ◌/◌, ◌%◌, ◌<◌, ◌≤◌, ℤ, pos, ◌+ℤ◌, ◌-ℤ◌, ◌*ℤ◌, [], ◌++◌, List, length, take, IsTrue, Some};
 ghost use Rattle.std.specs.Int.{int_div_euclid};
 ghost use Rattle.mix_fixed.specs.Sound.{sat24, scale};
 ghost use Rattle.fx_nodes.specs.Blocks.{AreGiven, Block, all_given, all_taken};
@@ -34,6 +34,11 @@ pub fn a_fade_goes_by_equal_parts()
 /// Effects make as many frames as they are given.
 pub fn a_chain_keeps_the_number_of_frames()
     ensures { (effects : List Effect) (frames : List ℤ) → length (chain_value effects frames) ≡ length frames }
+{}
+
+/// Effects look at no later frame: what they make of the first frames stays, whichever frames follow.
+pub fn effects_look_at_no_later_frame()
+    ensures { (effects : List Effect) (first rest : List ℤ) → take (length first) (chain_value effects (first ++ rest)) ≡ chain_value effects first }
 {}
 
 /// However frames are cut into blocks, the blocks that a chain gives, one behind the other, are what its effects make of all

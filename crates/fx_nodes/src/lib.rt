@@ -30,6 +30,7 @@ pub use chain::{Chain, MAX_EFFECTS};
 pub use effect::{Effect, MAX_DELAY, MAX_FADE_END};
 pub use laws::{
     a_chain_keeps_the_number_of_frames, a_delay_feeds_back, a_fade_goes_by_equal_parts,
-    both_channels_go_through_one_ring, frames_may_be_cut_anywhere, words_write_effects,
+    both_channels_go_through_one_ring, effects_look_at_no_later_frame, frames_may_be_cut_anywhere,
+    words_write_effects,
 };
 pub use words::read_effect;

@@ -1,4 +1,3 @@
-pub mod JobList
 pub mod Queues
 pub mod Rule
 pub mod Rings

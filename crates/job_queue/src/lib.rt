@@ -19,18 +19,12 @@
 //! the ring, which each push and each pop keeps, and `proofs/RuleLaws.antt` what it says in sentences of its
 //! own. The ring is private to one module, which has one function for each kind of step; the calls stand
 //! over these.
-//!
-//! [`Jobs`] are a plain list of jobs for one thread, or under a `Mutex`: first in, first out, with room for
-//! a number of jobs that is fixed when they are made. A post to full ones hands the job back. No call of
-//! theirs waits, and only the making needs memory.
 #![tactic(auto)]
 
 mod job_ring;
-mod jobs;
 mod queue;
 mod rule;
 mod view;
 
-pub use jobs::Jobs;
 pub use queue::{JobQueue, JobSeat, NoRoom, Place};
 pub use view::{Post, Posted, TagData};

@@ -1,6 +1,13 @@
 pub mod Answers
+pub mod Desks
 pub mod FaultText
 pub mod Fetching
+pub mod Holding
+pub mod PageOrder
+pub mod Posting
 pub mod Reading
+pub mod Shelves
 pub mod Tapes
 pub mod Workers
+pub mod Working
+pub mod Works

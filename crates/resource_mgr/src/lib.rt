@@ -8,20 +8,34 @@
 //! A [`Tape`] has the pages of one clip in which its frames are decoded. It answers each page that
 //! is shown, and [`NotYet`](exec_reel::NotYet) for the others.
 //!
-//! [`decode_all`] makes the whole tapes of all clips, in several threads: workers and the caller take
-//! pages from a list, and each page is decoded in its turn into the room that was taken for it. The tapes
-//! are the same for each number of workers and each order in which they run.
+//! A [`Library`] has the pages of clips as jobs that threads share by reference, behind a ring. [`Library::open`] gives a
+//! [`Shelf`]: the library, a [`Poster`] with the jobs of all pages in their order, a [`Desk`] for each worker and one more,
+//! and the tapes. [`Library::post_some`] posts jobs while there is room. [`Library::work_one`] runs one, and
+//! [`Library::worker`] runs them until it comes by a [`Work::Quit`], which [`Library::post_quit`] posts. A page whose turn
+//! hasn't come and a quit are posted again, or stay at the desk until its next call. No call but the opening takes memory.
+//!
+//! Contracts see of a desk what its seat posted and took, in order, and the job that it keeps: `specs/PageOrder.antt` says in
+//! which order the pages come, `specs/Posting.antt` what a post makes of a desk, and `specs/Working.antt` what the running of
+//! a job does, and that no job is lost.
 //!
 //! `specs/Fetching.antt` says what is fetched and which fault comes first.
 #![tactic(auto)]
 
-mod decoding;
+mod desk;
 mod fetching;
 mod lib_fault;
+mod library;
+mod poster;
 mod reels;
+mod source;
 mod tape;
+mod work;
+mod worker;
 
-pub use decoding::{MAX_WORKERS, decode_all};
+pub use desk::Desk;
 pub use fetching::{fetch_clips, fetch_file};
 pub use lib_fault::LibFault;
+pub use library::{Library, MAX_WORKERS, Shelf};
+pub use poster::{Posted, Poster};
 pub use tape::Tape;
+pub use work::{Work, Worked};

@@ -61,6 +61,9 @@ module _ (bytes : List ℕ) (w : Wave) (frame : ℕ) (said : wave bytes ≡ Ok w
   unfolding made held
   listed = page_by_number bytes w (frame / 8192) said
 
+  whole : length (interleaved (page_frames bytes (frame / 8192))) ≡ held * w.channels
+  whole = rw listed (length_joined made w.channels wide (8192 * (frame / 8192)) held)
+
   pub frame_fits : frame % 8192 * w.channels + w.channels ≤ length (interleaved (page_frames bytes (frame / 8192)))
   frame_fits = rw listed (part_fits made w.channels wide (8192 * (frame / 8192)) held (frame % 8192) inside)
 
@@ -73,12 +76,33 @@ module _ (bytes : List ℕ) (w : Wave) (frame : ℕ) (said : wave bytes ≡ Ok w
       rw listed (joined_part made w.channels wide (8192 * (frame / 8192)) held (frame % 8192) inside)
       ∙ ap made place ∙ sym (frame_of bytes w frame (replicate w.channels (pos 0)) said below)
 
+  -- where its page has the samples of two frames from the frame on, the next frame stands there too
+  two_held : frame % 8192 * w.channels + 2 * w.channels ≤ length (interleaved (page_frames bytes (frame / 8192))) → 0 < w.channels → frame % 8192 + 2 ≤ held
+  two_held room some =
+      let ch = w.channels in
+      let rows : (frame % 8192 + 1) * ch < held * ch = omega (arith, room, whole, some, add-mul (frame % 8192) 1 ch) in
+      let more : frame % 8192 + 1 < held = lt_of_mul-lt-mul_right ch rows in
+      omega (arith, more)
+
+  pub next_in_page : frame % 8192 * w.channels + 2 * w.channels ≤ length (interleaved (page_frames bytes (frame / 8192))) → 0 < w.channels
+      → take w.channels (drop (frame % 8192 * w.channels + w.channels) (interleaved (page_frames bytes (frame / 8192))))
+      ≡ frame_or_silence w.channels (frames bytes) (frame + 1)
+  unfolding made held
+  next_in_page room some =
+      let ch = w.channels in
+      let a = 8192 * (frame / 8192) in
+      let k = frame % 8192 + 1 in
+      let inside_page : k < held = omega (arith, two_held room some) in
+      let place : frame % 8192 * ch + ch ≡ k * ch = omega (arith, add-mul (frame % 8192) 1 ch) in
+      let there : a + k ≡ frame + 1 = omega arith in
+      let last : frame + 1 < w.frames = omega (arith, inside_page, there) in
+      ap (λ i. take ch (drop i (interleaved (page_frames bytes (frame / 8192))))) place
+      ∙ rw listed (joined_part made ch wide a held k inside_page)
+      ∙ ap made there ∙ sym (frame_of bytes w (frame + 1) (replicate ch (pos 0)) said last)
+
   -- the samples from the frame's first on
   pub rest_fits : frame % 8192 * w.channels ≤ length (interleaved (page_frames bytes (frame / 8192)))
   rest_fits = omega (arith, frame_fits)
-
-  whole : length (interleaved (page_frames bytes (frame / 8192))) ≡ held * w.channels
-  whole = rw listed (length_joined made w.channels wide (8192 * (frame / 8192)) held)
 
   pub rest_holds : w.channels ≤ length (drop (frame % 8192 * w.channels) (interleaved (page_frames bytes (frame / 8192))))
   rest_holds = omega (arith, frame_fits, length-drop (frame % 8192 * w.channels) (interleaved (page_frames bytes (frame / 8192))))

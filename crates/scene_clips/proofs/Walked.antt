@@ -21,6 +21,7 @@ walked c n w v walk below is =
     subst (λ (x : Walk). IsWalkOf c (n + 1) x) (sym on) (record {
       input_is = walk.input_is;
       output_is = walk.output_is;
+      frames_are = walk.frames_are;
       length_is = walk.length_is;
       place_is = ap (λ k. k + 1) walk.place_is;
       conversion = walk.conversion;

@@ -73,15 +73,17 @@ impl FileFrames {
         &self.wave
     }
 
-    /// The frame of number `n`, counted from 0, and the next one: one sample of 24 bits a channel of the file, which
-    /// has 1 to 8. After the last frame of the file stand frames of 0. Their pages are there.
+    /// The frame of number `n`, counted from 0 and below the number of the file's frames, and the next one: one sample of
+    /// 24 bits a channel of the file, which has 1 to 8. After the last frame of the file stands a frame of 0. Their pages
+    /// are there.
     pub(crate) fn frame_and_next<'a>(
         &self,
         pages: &'a [Option<Page>],
         n: u64,
     ) -> (&'a [i32], &'a [i32])
+        requires below { n < self.now.wave.frames }
         requires near { n < 2 ^ 62 }
-        requires first { n < self.now.wave.frames → AreThere self.now.bytes pages.now (n / 8192 + 1) }
+        requires first { AreThere self.now.bytes pages.now (n / 8192 + 1) }
         requires next { n + 1 < self.now.wave.frames → AreThere self.now.bytes pages.now ((n + 1) / 8192 + 1) }
         ensures first { result.0.now ≡ frame_or_silence self.now.wave.channels (frames self.now.bytes) n }
         ensures next { result.1.now ≡ frame_or_silence self.now.wave.channels (frames self.now.bytes) (n + 1) }
@@ -89,12 +91,14 @@ impl FileFrames {
         ensures most { (length result.0.now ≤ 8) × (length result.1.now ≤ 8) }
         ensures range { All (λ sample. Is24 sample) result.0.now × All (λ sample. Is24 sample) result.1.now }
     {
-        let next = n + 1;
-        if next >= self.wave.frames || next % FRAMES_PER_PAGE == 0 {
-            return (self.frame(pages, n), self.frame(pages, next));
+        let count = usize::from(self.wave().channels);
+        let samples = self.page(pages, n / FRAMES_PER_PAGE).samples();
+        let place = (n % FRAMES_PER_PAGE) as usize * count;
+        let first = frame_at(samples, place, count);
+        if place + 2 * count > samples.len() {
+            return (first, self.frame(pages, n + 1));
         }
-        let page = self.page(pages, n / FRAMES_PER_PAGE);
-        (self.frame_of(page, n), self.frame_of(page, next))
+        (first, frame_at(samples, place + count, count))
     }
 
     /// Frame `n`, whose page is there, or one of 0 past the end.
@@ -109,22 +113,13 @@ impl FileFrames {
         if n >= wave.frames {
             return frame_at(SILENCE, 0, usize::from(wave.channels));
         }
-        self.frame_of(self.page(pages, n / FRAMES_PER_PAGE), n)
-    }
-
-    /// Frame `n`, below the number of the file's frames, in its page.
-    fn frame_of<'a>(&self, page: &'a Page, n: u64) -> &'a [i32]
-        requires below { n < self.now.wave.frames }
-        requires page { page.now ≡ file_page self.now.bytes (n / 8192) }
-        ensures value { result.now ≡ frame_or_silence self.now.wave.channels (frames self.now.bytes) n }
-        ensures least { 1 ≤ length result.now }
-        ensures most { length result.now ≤ 8 }
-        ensures range { All (λ sample. Is24 sample) result.now }
-    {
-        let wave = self.wave();
         let count = usize::from(wave.channels);
         let place = (n % FRAMES_PER_PAGE) as usize * count;
-        frame_at(page.samples(), place, count)
+        frame_at(
+            self.page(pages, n / FRAMES_PER_PAGE).samples(),
+            place,
+            count,
+        )
     }
 
     /// The samples from frame `n` on, below the number of the file's frames, as far as its page goes, which is

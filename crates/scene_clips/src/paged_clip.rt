@@ -191,6 +191,7 @@ impl PagedClip {
         requires there { AreThere self.now.bytes pages.now (pages_through self.now.bytes point.first) }
         requires weighted { point.weight < self.now.rate }
         requires near { point.first < 2 ^ 62 }
+        requires inside { point.first < length (frames self.now.bytes) }
         ensures value { (n : ℕ) → point ≡ point_at (file_rate self.now.bytes) self.now.rate n →
             result ≡ clip_sample self.now.bytes self.now.rate self.now.channels n channel }
         ensures range { Is24 result }
@@ -205,6 +206,7 @@ impl PagedClip {
         requires there { AreThere self.now.bytes pages.now (pages_through self.now.bytes point.first) }
         requires weighted { point.weight < self.now.rate }
         requires near { point.first < 2 ^ 62 }
+        requires inside { point.first < length (frames self.now.bytes) }
         ensures left { (n : ℕ) → point ≡ point_at (file_rate self.now.bytes) self.now.rate n →
             result.0 ≡ clip_sample self.now.bytes self.now.rate self.now.channels n 0 }
         ensures right { (n : ℕ) → point ≡ point_at (file_rate self.now.bytes) self.now.rate n →

@@ -16,6 +16,12 @@ scenetool renders scenes of sound to WAVE files.
                              writes a large scene that follows from NUMBER, 0 to 4294967295:
                              the sounds PREFIX-0.wav to PREFIX-7.wav and the script PREFIX.toml;
                              PREFIX is 1 to 64 letters, digits, `_`, `-`, `.` and `/`
+  scenetool fx FILE OUT COUNT EFFECT ..
+                             takes the first COUNT frames of the WAVE file FILE, 0 to
+                             16777216, in two channels, sends them through 1 to 16 effects,
+                             one after the other, and writes the WAVE file OUT;
+                             EFFECT is delay:FRAMES:DECAY, pan:PLACE,
+                             fade:FROM:TO:FIRST:LAST or level:GAIN, gains in 1/65536
   scenetool --help           prints this text
   scenetool --version        prints the version
 

@@ -29,6 +29,28 @@ const USAGES: &[(&[&str], &str)] = &[
     (&["gen", "1", ""], "usage: word 2\n"),
     (&["gen", "1", "g h"], "usage: word 2\n"),
     (&["gen", "1", "g:"], "usage: word 2\n"),
+    (&["fx"], "usage: word 1\n"),
+    (&["fx", "a"], "usage: word 2\n"),
+    (&["fx", "a", "o"], "usage: word 3\n"),
+    (&["fx", "a", "o", "5"], "usage: word 4\n"),
+    (&["fx", "", "", ""], "usage: word 4\n"),
+    (&["fx", "", "o", "5", "pan:0"], "usage: word 1\n"),
+    (&["fx", "a", "", "x", "pan"], "usage: word 2\n"),
+    (&["fx", "a", "o", "16777217", "pan"], "usage: word 3\n"),
+    (&["fx", "a", "o", "000000005", "pan:0"], "usage: word 3\n"),
+    (&["fx", "a", "o", "5", "fade:4:4:0:1"], "usage: word 4\n"),
+    (
+        &["fx", "a", "o", "5", "pan:0", "pan:65537", "pan"],
+        "usage: word 5\n",
+    ),
+    (
+        &[
+            "fx", "", "o", "5", "pan:0", "pan:1", "pan:2", "pan:3", "pan:4", "pan:5", "pan:6",
+            "pan:7", "pan:8", "pan:9", "pan:10", "pan:11", "pan:12", "pan:13", "pan:14", "pan:15",
+            "pan:16",
+        ],
+        "usage: word 20\n",
+    ),
 ];
 
 #[test]

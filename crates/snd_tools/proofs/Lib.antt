@@ -1,6 +1,7 @@
+pub mod EffectWords
 pub mod Lines
-pub mod MixOutcomes
 pub mod NamedClips
 pub mod NamedFiles
 pub mod Outcomes
+pub mod RenderedOutcomes
 pub mod Sets

@@ -10,10 +10,11 @@ use Rattle.resource_mgr.specs.Fetching.{clips_fetched}
 use Rattle.resource_mgr.specs.declared.lib_fault.LibFault.{LibFault}
 use Rattle.snd_status.specs.declared.status.Status.{Status}
 use Rattle.clip_decode.specs.Limits.{most_sound_bytes}
-use Rattle.snd_tools.specs.Commands.{Command, Mix, Info, Gen, Render}
+use Rattle.fx_nodes.specs.declared.effect.Effect.{Effect}
+use Rattle.snd_tools.specs.Commands.{Command, Mix, Info, Gen, Fx, Render}
 use Rattle.snd_tools.specs.Laws.{AgreeFor, AgreeOn, AgreeOnScene, AgreeOnSounds}
-use Rattle.snd_tools.specs.Outcome.{command_result, mix_outcome, rendered, rendered_to, rendering, only_line, survey_line}
-use Rattle.snd_tools.specs.Reading.{◌>>=◌, fetched_or_status, file_read, scene_read, sounds_read}
+use Rattle.snd_tools.specs.Outcome.{command_result, fx_outcome, fx_rendering, mix_outcome, rendered, rendered_to, rendering, only_line, survey_line}
+use Rattle.snd_tools.specs.Reading.{◌>>=◌, fetched_or_status, file_read, scene_read, sound_file_read, sounds_read}
 use Rattle.snd_tools.proofs.NamedClips.{clips-same, clips-refused, clips-named, status-first}
 
 bind-same : {A B : Type 0} (x : Result A Status) (f g : A → Result B Status) → ((y : A) → x ≡ Ok y → f y ≡ g y) → (x >>= f) ≡ (x >>= g)
@@ -51,6 +52,8 @@ module _ (a b : Files) where
   outcome-same (Mix scene out) agree = mix_outcome-same scene out agree
   outcome-same (Info file) agree = ap (λ content. (file_read most_sound_bytes file content >>= survey_line) >>= λ text. Ok (only_line text)) agree
   outcome-same (Gen number prefix) agree = refl
+  outcome-same (Fx file out count effects) agree =
+      ap (λ content. (sound_file_read file content >>= λ bytes. Ok (fx_rendering bytes effects count)) >>= λ r. Ok (rendered_to out r)) agree
   outcome-same (Render scene out workers) agree = mix_outcome-same scene out agree
 
   -- what SCENE is refused for
@@ -58,3 +61,9 @@ module _ (a b : Files) where
   scene-refused scene out status agree is =
       ap (λ r. (r >>= λ s. sounds_read b s.resources >>= λ xs. Ok (rendering s (mix s xs))) >>= λ x. Ok (rendered_to out x))
       (ap (scene_read scene) (sym agree) ∙ is)
+
+  -- what FILE is refused for
+  pub sound-refused : (file out : List ℕ) (count : ℕ) (effects : List Effect) (status : Status) → AgreeOn a b file → sound_file_read file (get a file) ≡ Err status
+      → fx_outcome b file out count effects ≡ Err status
+  sound-refused file out count effects status agree is =
+      ap (λ r. (r >>= λ bytes. Ok (fx_rendering bytes effects count)) >>= λ x. Ok (rendered_to out x)) (ap (sound_file_read file) (sym agree) ∙ is)

@@ -1,9 +1,13 @@
 -- The words after the program's name, as a command. Words are counted from 0.
-use Rattle.std.specs.Prelude.{ℕ, Bool, ◌&&◌, ◌||◌, ◌==◌, nat_le, if◌then◌else◌, List, [], ◌∷◌, length, codes, Option, Some, None, Result, Ok, Err}
+use Rattle.std.specs.Prelude.{ℕ, ◌+◌, Bool, ◌&&◌, ◌||◌, ◌==◌, nat_le, if◌then◌else◌, List, [], ◌∷◌, length, codes, Option, Some, None, Result, Ok, Err}
 use Rattle.std.specs.List.{list_all}
 use Rattle.std.specs.Char.{is_ascii_alphanumeric}
 use Rattle.std.specs.Str.{bytes_eq}
 use Rattle.plain_data.specs.Numbers.{number}
+use Rattle.fx_nodes.specs.Effects.{most_effects}
+use Rattle.fx_nodes.specs.Words.{effect_of_word}
+use Rattle.fx_nodes.specs.declared.effect.Effect.{Effect}
+use Rattle.fx_render.specs.Effected.{most_frames}
 
 -- the bytes of a path
 abbrev pub most_path_bytes : ℕ
@@ -42,6 +46,10 @@ most_workers_digits = 2
 abbrev pub most_workers : ℕ
 most_workers = 16
 
+-- COUNT of `fx`
+abbrev pub most_count_digits : ℕ
+most_count_digits = 8
+
 -- The programs, each with commands of its own.
 pub data Program : Type 0 where
   Scenetool : Program
@@ -54,6 +62,8 @@ pub data Command : Type 0 where
   Info : List ℕ → Command
   -- gen NUMBER PREFIX
   Gen : ℕ → List ℕ → Command
+  -- fx FILE OUT COUNT EFFECT ..
+  Fx : List ℕ → List ℕ → ℕ → List Effect → Command
   -- render SCENE OUT WORKERS
   Render : List ℕ → List ℕ → ℕ → Command
 
@@ -82,6 +92,37 @@ gen_words (word ∷ []) = Err 2
 gen_words (word ∷ prefix ∷ []) = gen_command (number most_number_digits most_number word) prefix
 gen_words (word ∷ prefix ∷ extra ∷ more) = Err 3
 
+-- The effects that words write, in their order, or the place of the first word that writes none. The first of the words has
+-- the place `place`.
+abbrev pub effect_then : ℕ → Option Effect → Result (List Effect) ℕ → Result (List Effect) ℕ
+effect_then place None more = Err place
+effect_then place (Some effect) (Err later) = Err later
+effect_then place (Some effect) (Ok effects) = Ok (effect ∷ effects)
+
+abbrev pub effects_from : ℕ → List (List ℕ) → Result (List Effect) ℕ
+effects_from place [] = Ok []
+effects_from place (word ∷ words) = effect_then place (effect_of_word word) (effects_from (place + 1) words)
+
+-- the words after `fx`, in the same way: at least one effect, and no more than a chain has
+abbrev pub fx_command : List ℕ → List ℕ → Option ℕ → Result (List Effect) ℕ → Result Command ℕ
+fx_command file out None effects = Err 3
+fx_command file out (Some count) (Err place) = Err place
+fx_command file out (Some count) (Ok effects) = Ok (Fx file out count effects)
+
+abbrev pub fx_parts : List ℕ → List ℕ → List ℕ → List (List ℕ) → Result Command ℕ
+fx_parts file out word effects =
+    if is_path file
+    then (if is_path out then fx_command file out (number most_count_digits most_frames word) (effects_from 4 effects) else Err 2)
+    else Err 1
+
+abbrev pub fx_words : List (List ℕ) → Result Command ℕ
+fx_words [] = Err 1
+fx_words (file ∷ []) = Err 2
+fx_words (file ∷ out ∷ []) = Err 3
+fx_words (file ∷ out ∷ word ∷ []) = Err 4
+fx_words (file ∷ out ∷ word ∷ effect ∷ more) =
+    if nat_le (length (effect ∷ more)) most_effects then fx_parts file out word (effect ∷ more) else Err (4 + most_effects)
+
 -- the words after `render`, in the same way
 abbrev pub render_command : List ℕ → List ℕ → Option ℕ → Result Command ℕ
 render_command scene out None = Err 3
@@ -104,6 +145,7 @@ command Scenetool (word ∷ words) =
     if bytes_eq word (codes "mix") then mix_words words else
     if bytes_eq word (codes "info") then info_words words else
     if bytes_eq word (codes "gen") then gen_words words else
+    if bytes_eq word (codes "fx") then fx_words words else
     Err 0
 command Scenerender [] = Err 0
 command Scenerender (word ∷ words) = if bytes_eq word (codes "render") then render_words words else Err 0

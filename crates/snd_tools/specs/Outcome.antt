@@ -10,6 +10,9 @@ use Rattle.scene_model.specs.SceneData.{SceneData}
 use Rattle.mix_model.specs.Output.{wav}
 use Rattle.mix_model.specs.Mix.{mix}
 use Rattle.mix_model.specs.Rendering.{summary_of}
+use Rattle.fx_nodes.specs.declared.effect.Effect.{Effect}
+use Rattle.fx_render.specs.Effected.{effected_summary, effected_wav, stereo, width}
+use Rattle.scene_clips.specs.ClipFrames.{file_rate}
 use Rattle.gen_scene.specs.Script.{script, script_from, script_name}
 use Rattle.gen_scene.specs.Sounds.{sounds, sound_file, sound_name}
 use Rattle.snd_io.specs.Files.{Files}
@@ -17,8 +20,8 @@ use Rattle.snd_status.specs.declared.mix_report.MixReport.{MixReport}
 use Rattle.snd_status.specs.declared.status.Status.{Status}
 use Rattle.snd_status.specs.declared.status.Status.TheVariants.{Usage}
 use Rattle.snd_status.specs.Texts.{mix_text, wave_text, status_text}
-use Rattle.snd_tools.specs.Commands.{Program, Command, Mix, Info, Gen, Render, command}
-use Rattle.snd_tools.specs.Reading.{◌>>=◌, file_read, scene_read, sounds_read, surveyed}
+use Rattle.snd_tools.specs.Commands.{Program, Command, Mix, Info, Gen, Fx, Render, command}
+use Rattle.snd_tools.specs.Reading.{◌>>=◌, file_read, scene_read, sound_file_read, sounds_read, surveyed}
 
 -- a file that is to be written
 pub record OutputFile : Type 0 where
@@ -113,6 +116,31 @@ info_outcome files file = do
   text ← file_read most_sound_bytes file (get files file) >>= survey_line
   Ok (only_line text)
 
+-- `fx`: what effects make of the first frames of a file, and the line of a rendering on it
+abbrev pub fx_report_of : List ℕ → List Effect → ℕ → MixReport
+fx_report_of bytes effects count = record {
+  frames = count;
+  rate = file_rate bytes;
+  channels = stereo;
+  width = width;
+  bytes = length (effected_wav bytes effects count);
+  peak = (effected_summary bytes effects count).peak;
+  sum = (effected_summary bytes effects count).sum;
+}
+
+abbrev pub fx_rendering : List ℕ → List Effect → ℕ → Rendering
+fx_rendering bytes effects count = record { file = effected_wav bytes effects count; line = line (mix_text (fx_report_of bytes effects count)) }
+
+abbrev pub fx_rendered : Files → List ℕ → List Effect → ℕ → Result Rendering Status
+fx_rendered files file effects count = do
+  bytes ← sound_file_read file (get files file)
+  Ok (fx_rendering bytes effects count)
+
+abbrev pub fx_outcome : Files → List ℕ → List ℕ → ℕ → List Effect → Result Report Status
+fx_outcome files file out count effects = do
+  r ← fx_rendered files file effects count
+  Ok (rendered_to out r)
+
 -- `gen`: the sound files of the scene of a number, and then its script
 abbrev pub sound_output : ℕ → List ℕ → ℕ → OutputFile
 sound_output number prefix i = record { name = sound_name prefix i; bytes = sound_file number i }
@@ -139,6 +167,7 @@ abbrev pub command_result : Files → Command → Result Report Status
 command_result files (Mix scene out) = mix_outcome files scene out
 command_result files (Info file) = info_outcome files file
 command_result files (Gen number prefix) = gen_outcome number prefix
+command_result files (Fx file out count effects) = fx_outcome files file out count effects
 command_result files (Render scene out workers) = mix_outcome files scene out
 
 abbrev pub command_outcome : Files → Command → Outcome

@@ -1,5 +1,6 @@
 -- What is read of a scene and of its sound files, and which refusal comes first.
 use Rattle.std.specs.Prelude.{◌≡◌, ℕ, zero, suc, Bool, true, false, List, [], ◌∷◌, Option, Result, Ok, Err}
+use Rattle.clip_decode.specs.Limits.{most_sound_bytes}
 use Rattle.wave_read.specs.Wave.{wave}
 use Rattle.wave_read.specs.declared.wave.Wave.{Wave}
 use Rattle.wave_read.specs.declared.wave_fault.WaveFault.{WaveFault}
@@ -62,6 +63,16 @@ file_or_fault number (Err fault) = Err (File number fault)
 -- what a sound file says of its sound
 abbrev pub surveyed : ℕ → List ℕ → Result Wave Status
 surveyed number bytes = file_or_fault number (wave bytes)
+
+-- the bytes of a file that is a sound
+abbrev pub sound_said : List ℕ → Result (List ℕ) Status
+sound_said bytes = do
+  w ← surveyed 0 bytes
+  Ok bytes
+
+-- FILE
+abbrev pub sound_file_read : List ℕ → Option (List ℕ) → Result (List ℕ) Status
+sound_file_read name file = file_read most_sound_bytes name file >>= sound_said
 
 -- the name of the sound file of the resource of a number
 abbrev pub file_name : List Resource → ℕ → List ℕ

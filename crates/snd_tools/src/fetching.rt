@@ -7,7 +7,7 @@ ghost use Rattle.snd_tools.specs.Reading as spec;
 ghost use Rattle.snd_tools.specs.Reading.{GivesBy, stopped_by_depot, can_stop};
 ghost use Rattle.resource_mgr.specs.Answers.{NamesOneOf};
 
-use clip_decode::Clip;
+use clip_decode::{Clip, ClipError, MAX_SOUND_BYTES};
 use plain_data::Text;
 use resource_mgr::{LibFault, fetch_clips, fetch_file as fetch};
 use scene_model::{Resource, Scene};
@@ -41,6 +41,32 @@ pub(crate) fn fetch_file<D: Depot>(
         Err(FetchFault::TooLong) => Err(too_long(alloc, name, limit)),
         Err(FetchFault::Failed) => Err(Status::DepotFault),
         Err(FetchFault::OutOfMemory) => Err(Status::OutOfMemory),
+    }
+}
+
+/// Reads the sound of FILE, and no file changes.
+pub(crate) fn read_sound<D: Depot>(alloc: Global, depot: &mut D, name: &str) -> Result<Clip, Status>
+    requires { D.writing depot.old ≡ None }
+    ensures told { IfSome (D.files depot.old) (λ files. GivesBy (λ clip. clip.bytes) result (spec.sound_file_read name.now (get files name.now))) }
+    ensures files { D.files depot.new ≡ D.files depot.old }
+    ensures closed { D.writing depot.new ≡ None }
+    ensures cause { CountsFaults (D.faults depot.old) (D.faults depot.new) (stopped_by_depot result) }
+    ensures stop { can_stop result ≡ true }
+{
+    let bytes = fetch_file(alloc, depot, name, MAX_SOUND_BYTES)?;
+    sound_of(alloc, bytes)
+}
+
+/// The sound of a file.
+fn sound_of(alloc: Global, bytes: Vec<u8>) -> Result<Clip, Status>
+    ensures value { GivesBy (λ clip. clip.bytes) result (spec.sound_said bytes.items) }
+    ensures no_fault { stopped_by_depot result ≡ false }
+    ensures stop { can_stop result ≡ true }
+{
+    match Clip::new(alloc, bytes) {
+        Ok(clip) => Ok(clip),
+        Err(ClipError::Fault(fault)) => Err(Status::File { resource: 0, fault }),
+        Err(ClipError::OutOfMemory) => Err(Status::OutOfMemory),
     }
 }
 

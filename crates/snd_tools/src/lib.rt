@@ -4,7 +4,10 @@
 
 mod command;
 mod disk_depot;
+mod effect_words;
+mod effects;
 mod fetching;
+mod fx;
 mod generating;
 mod info;
 mod laws;

@@ -17,6 +17,7 @@ use clip_decode::Clip;
 use engine::RunFault;
 use mix_model::{Summary, file_bytes};
 use plain_data::OutOfMemory;
+use resource_mgr::Library;
 use scene_model::Scene;
 use snd_io::{Depot, Gate, PutFault};
 use snd_status::MixReport;
@@ -42,7 +43,7 @@ pub(crate) fn write_mix<D: Depot>(
     put_result(engine::mix(alloc, scene, clips, depot, out))
 }
 
-/// The same with workers that decode the clips.
+/// The same while workers decode the clips.
 pub(crate) fn write_render<R: Threads + Wait + Sync, D: Depot, G: Gate + Sync>(
     rt: &R,
     alloc: Global,
@@ -62,11 +63,12 @@ pub(crate) fn write_render<R: Threads + Wait + Sync, D: Depot, G: Gate + Sync>(
     ensures cause { CountsFaults (D.faults depot.old) (D.faults depot.new) (put_failed (put_of result)) }
     ensures summary { IfOk result (λ summary. summary ≡ summary_of scene.now (mix scene.now (map (λ clip. clip.bytes) clips.items))) }
 {
-    put_result(engine::render(rt, alloc, scene, clips, workers, depot, out, gate))
+    let shelf = Library::open(alloc, clips, workers)?;
+    put_result(engine::render(rt, alloc, scene, shelf, depot, out, gate))
 }
 
 /// What a run came to, by the answer of the store.
-fn put_result(result_of_run: Result<Summary, RunFault>) -> Result<Summary, PutFault>
+pub(crate) fn put_result(result_of_run: Result<Summary, RunFault>) -> Result<Summary, PutFault>
     ensures answer { put_of result ≡ answer_of result_of_run }
     ensures summary { (wanted : Summary) → IfOk result_of_run (λ summary. summary ≡ wanted) → IfOk result (λ summary. summary ≡ wanted) }
 {

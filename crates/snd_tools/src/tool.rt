@@ -9,6 +9,7 @@ ghost use Rattle.snd_tools.specs.Printing.{Tells, has_outcome_line};
 ghost use Rattle.snd_tools.specs.Reading.{stopped_by_depot};
 
 use crate::command::{Command, read_command};
+use crate::fx::fx;
 use crate::generating::generate;
 use crate::info::info;
 use crate::mix::mix;
@@ -22,7 +23,8 @@ use std::alloc::Global;
 ///
 /// `mix SCENE OUT` reads the scene's script SCENE and its sound files from the depot and writes OUT,
 /// the WAVE file of the scene. `info FILE` reads the format of a WAVE file and the number of its frames. `gen NUMBER PREFIX`
-/// writes the sound files and the script of the scene of a number.
+/// writes the sound files and the script of the scene of a number. `fx FILE OUT COUNT EFFECT ..` writes to OUT the WAVE file of
+/// what 1 to 16 effects, one after the other, make of the first COUNT frames of a WAVE file, 0 to 16777216, in two channels.
 pub fn run_tool<D: Depot, T: Sink>(
     alloc: Global,
     words: &[String],
@@ -66,6 +68,14 @@ fn carry_out<D: Depot>(alloc: Global, words: &[String], depot: &mut D) -> Result
         Ok(Command::Mix { scene, out }) => mix(alloc, depot, scene, out),
         Ok(Command::Info { file }) => info(alloc, depot, file),
         Ok(Command::Gen { number, prefix }) => generate(alloc, depot, number, prefix),
+        Ok(
+            Command::Fx {
+                file,
+                out,
+                count,
+                effects,
+            },
+        ) => fx(alloc, depot, file, out, count, effects.as_slice()),
         Err(word) => Err(Status::Usage { word }),
     }
 }

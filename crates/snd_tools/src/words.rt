@@ -13,6 +13,9 @@ pub(crate) const MAX_NUMBER_DIGITS: usize = 10;
 /// The greatest NUMBER of `gen`.
 pub(crate) const MAX_NUMBER: u32 = 4_294_967_295;
 
+/// The most digits of COUNT of `fx`.
+pub(crate) const MAX_COUNT_DIGITS: usize = 8;
+
 pub(crate) fn is_path(word: &str) -> bool
     ensures { result ≡ spec.is_path word.now }
 {

@@ -1,9 +1,7 @@
 //! Decoding by workers that a gate holds: 2 pages of 8192 frames are a resource of 16384 frames.
 
-use crate::sounds::clips;
-use crate::tapes::is_whole;
+use crate::threads::count_whole;
 use plain_data::OutOfMemory;
-use resource_mgr::decode_all;
 use snd_io::{Event, HoldGate};
 use std::alloc::Global;
 use std::process::Abort;
@@ -32,18 +30,14 @@ fn gate_after(alloc: Global, last: u32, turns: u32) -> Result<HoldGate, OutOfMem
 fn keeps<R: Threads + Wait + Sync + Abort>(
     rt: &R,
     alloc: Global,
-    frames: &[u16],
+    frames: &[u32],
     workers: u32,
     gate: &HoldGate,
 ) -> Result<bool, Fail> {
-    let wanted = clips(rt, alloc, 1, frames)?;
-    let clips = clips(rt, alloc, 1, frames)?;
-    assert!(rt; clips.len() <= 64 && workers <= 16);
-    let tapes = decode_all(rt, alloc, clips, workers, gate)?;
-    assert_eq!(rt; tapes.len(), wanted.len());
-    for (tape, clip) in tapes.into_iter().zip(wanted) {
-        assert!(rt; is_whole(rt, alloc, tape, clip)?);
-    }
+    assert_eq!(rt;
+        count_whole(rt, alloc, 1, frames, workers, gate)?,
+        frames.len()
+    );
     Ok(gate.kept())
 }
 
@@ -51,13 +45,6 @@ fn keeps<R: Threads + Wait + Sync + Abort>(
 fn the_later_of_two_resources_may_be_decoded_first(rt: HostRuntime) -> Result<(), Fail> {
     let gate = gate_after(rt.alloc(), 1, AMPLE_TURNS)?;
     assert!(rt; keeps(&rt, rt.alloc(), &[16_384; 2], 2, &gate)?);
-    Ok(())
-}
-
-#[test]
-fn the_caller_and_a_worker_decode_at_once(rt: HostRuntime) -> Result<(), Fail> {
-    let gate = gate_after(rt.alloc(), 4, AMPLE_TURNS)?;
-    assert!(rt; keeps(&rt, rt.alloc(), &[16_384; 5], 1, &gate)?);
     Ok(())
 }
 

@@ -1,11 +1,15 @@
-//! The tests of decoding by workers, and of the jobs that they share.
+//! The tests of decoding by workers, at the desks of a library.
 #![tactic(auto)]
 
 #[cfg(test)]
 mod gates;
 #[cfg(test)]
-mod jobs;
+mod places;
+#[cfg(test)]
+mod shelves;
 #[cfg(test)]
 mod sounds;
 #[cfg(test)]
 mod tapes;
+#[cfg(test)]
+mod threads;

@@ -68,8 +68,8 @@ fn noise(alloc: Global, format: &Format, len: usize) -> Result<Vec<u8>, AllocErr
 }
 
 /// A WAVE file of at least `frames` frames.
-fn wave_file(alloc: Global, format: &Format, frames: u16) -> Result<Vec<u8>, AllocError> {
-    let blocks = usize::from(frames).div_ceil(usize::from(format.block.max(1)));
+fn wave_file(alloc: Global, format: &Format, frames: u32) -> Result<Vec<u8>, AllocError> {
+    let blocks = (frames as usize).div_ceil(usize::from(format.block.max(1)));
     let sound = noise(alloc, format, blocks * usize::from(format.align))?;
     let mut file = Vec::from_slice(alloc, b"RIFF\0\0\0\0WAVEfmt \x10\0\0\0")?;
     file.extend_from_slice(&format.tag.to_le_bytes())?;
@@ -85,7 +85,7 @@ fn wave_file(alloc: Global, format: &Format, frames: u16) -> Result<Vec<u8>, All
 }
 
 /// A clip of at least `frames` frames, in one of the formats, by its number.
-fn clip(rt: &impl Abort, alloc: Global, number: usize, frames: u16) -> Result<Clip, Fail>
+fn clip(rt: &impl Abort, alloc: Global, number: usize, frames: u32) -> Result<Clip, Fail>
     ensures { IfOk result (λ clip. length clip.bytes ≤ most_sound_bytes) }
 {
     let clip = Clip::new(alloc, wave_file(alloc, &format_of(number), frames)?)
@@ -101,7 +101,7 @@ pub fn clips(
     rt: &impl Abort,
     alloc: Global,
     formats: usize,
-    frames: &[u16],
+    frames: &[u32],
 ) -> Result<Vec<Clip>, Fail>
     ensures count { IfOk result (λ clips. length clips.items ≡ length frames.now) }
     ensures sizes { IfOk result (λ clips. All (λ (clip : ClipData). length clip.bytes ≤ most_sound_bytes) clips.items) }

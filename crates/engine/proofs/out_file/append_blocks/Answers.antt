@@ -9,7 +9,7 @@ use Rattle.mix_model.specs.Mix.{clips_of, frames_from}
 use Rattle.mix_model.specs.Rendering.{data_of, summary_of}
 use Rattle.mix_model.proofs.Written.{data-join}
 use Rattle.resource_mgr.specs.Tapes.{files_of}
-use Rattle.resource_mgr.proofs.Tapes.{laters_files, laters_shown}
+use Rattle.resource_mgr.proofs.Tapes.{laters_files}
 use Rattle.engine.specs.RendererData.{RendererData}
 use Rattle.engine.specs.Rendering.{frames_before}
 use Rattle.engine.proofs.Appending.{ended, stays_open, stopped_piece}
@@ -24,14 +24,15 @@ unfolding interleaved
 loop-scene-init g c =
     let s = c.args.scene.now in
     let r = c.args.renderer.now in
-    let empty : data_of s (frames_before s (files_of r.tapes) r.clock) ≡ [] = ap (λ t. data_of s (frames_before s (files_of r.tapes) t)) c.requires.start in
+    let start = ap (λ (x : RendererData). x.clock) c.requires.opened in
+    let empty : data_of s (frames_before s (files_of r.tapes) r.clock) ≡ [] = ap (λ t. data_of s (frames_before s (files_of r.tapes) t)) start in
     record {
-      scene = c.requires.scene;
+      scene = ap (λ (x : RendererData). x.scene) c.requires.opened;
       files = refl;
-      whole = c.requires.whole;
-      fresh = c.requires.fresh;
-      within = omega (arith, c.requires.start);
-      summary_is = c.empty-summary.ensures ∙ sym (ap (λ t. summary_of s (frames_before s (files_of r.tapes) t)) c.requires.start);
+      shows = c.requires.shows;
+      fresh = (ap (λ (x : RendererData). x.next) c.requires.opened, ap (λ (x : RendererData). x.ready) c.requires.opened);
+      within = omega (arith, start);
+      summary_is = c.empty-summary.ensures ∙ sym (ap (λ t. summary_of s (frames_before s (files_of r.tapes) t)) start);
       number_most = omega arith;
       room = refl;
       writing = refl;
@@ -52,7 +53,7 @@ loop-scene-preserved g c =
     record {
       scene = ap (λ (x : RendererData). x.scene) did.next ∙ now.scene;
       files = laters_files r.tapes q.tapes did.tapes ∙ now.files;
-      whole = laters_shown r.tapes q.tapes did.tapes now.whole;
+      shows = did.shows;
       fresh = (ap (λ (x : RendererData). x.next) did.next ∙ now.fresh.0, ap (λ (x : RendererData). x.ready) did.next ∙ now.fresh.1);
       within = did.within;
       summary_is = subst (λ (fs : List (List ℕ)). c.loop-scene.summary ≡ summary_of s (frames_before s fs r.clock) → c.in-Ok.more ≡ summary_of s (frames_before s fs q.clock)) now.files did.summary now.summary_is;

@@ -1,7 +1,7 @@
 use Rattle.std.proofs.Common.{◌≡◌, ◌-◌, ◌≤◌, None, Some, false, List, ℕ, length}
 use Rattle.snd_io.specs.Runs.{GrowsBy}
 use Rattle.mix_model.specs.Rendering.{data_of, summary_of}
-use Rattle.resource_mgr.specs.Tapes.{AreShown, files_of}
+use Rattle.resource_mgr.specs.Tapes.{files_of}
 use Rattle.engine.specs.Rendering.{frames_before}
 use Rattle.engine.specs.Span.{node_places}
 use Rattle.engine.proofs.out_file.append_blocks.Given as goal
@@ -10,7 +10,7 @@ abbrev pub invariant-loop-scene : goal.invariant-loop-scene
 invariant-loop-scene g l = record {
   scene : l.renderer.scene ≡ l.fn.scene;
   files : files_of l.renderer.tapes ≡ files_of l.fn.renderer.tapes;
-  whole : AreShown l.renderer.tapes;
+  shows : g.P.PageSource.shows l.source l.renderer.tapes;
   fresh : (l.renderer.next ≡ None) × (l.renderer.ready ≡ false);
   within : l.renderer.clock ≤ l.fn.scene.length;
   summary_is : l.summary ≡ summary_of l.fn.scene (frames_before l.fn.scene (files_of l.fn.renderer.tapes) l.renderer.clock);

@@ -8,7 +8,7 @@ use Rattle.mix_model.specs.Rendering.{data_of, summary_of}
 use Rattle.mix_model.specs.Summary.{summary}
 use Rattle.mix_model.specs.declared.summary.Summary.{Summary}
 use Rattle.mix_model.proofs.Written.{samples-join, data-join, samples_24}
-use Rattle.resource_mgr.specs.Tapes.{AreLater, AreShown, files_of}
+use Rattle.resource_mgr.specs.Tapes.{AreLater, files_of}
 use Rattle.resource_mgr.specs.declared.tape.Tape.{Tape}
 use Rattle.resource_mgr.proofs.Tapes.{laters_files}
 use Rattle.engine.specs.RendererData.{RendererData, clips_heard}
@@ -61,11 +61,11 @@ summary_more s files t frames later was now out bytes e samples are more is =
     ∙ ap (λ xs. summary xs (data_of s so_far ++ data_of s (frames_from clips s t frames))) (sym (samples-join clips s t frames later e))
     ∙ ap (λ ys. summary (interleaved (frames_from clips s 0 later)) ys) (sym (data-join clips s t frames later e))
 
-pub make_ready-requires-clause-whole : goal.make_ready-requires-clause-whole
-make_ready-requires-clause-whole c = subst AreShown (sym (ap (λ (x : RendererData). x.tapes) c.step-frames.ensures.next)) c.requires.whole
+pub make_ready-requires-clause-shows : goal.make_ready-requires-clause-shows
+make_ready-requires-clause-shows g c = subst (g.P.PageSource.shows c.args.source.now) (sym (ap (λ (x : RendererData). x.tapes) c.step-frames.ensures.next)) c.requires.shows
 
 pub pack-requires-clause-samples : goal.pack-requires-clause-samples
-pack-requires-clause-samples c =
+pack-requires-clause-samples g c =
     let s = c.args.scene.now in
     let r = c.args.renderer.now in
     let frames = c.step-frames.result in
@@ -76,7 +76,7 @@ pack-requires-clause-samples c =
     rw samples (samples_24 (clips_of s (files_of r.tapes)) s r.clock frames)
 
 pub returns-clause-bytes : goal.returns-clause-bytes
-returns-clause-bytes c =
+returns-clause-bytes g c =
     let s = c.args.scene.now in
     let r = c.args.renderer.now in
     let frames = c.step-frames.result in
@@ -94,7 +94,7 @@ returns-clause-bytes c =
     ∙ ap (λ (xs : List ℕ). data_of s (frames_before s (files_of r.tapes) r.clock) ++ xs) (sym bytes)
 
 pub returns-clause-summary : goal.returns-clause-summary
-returns-clause-summary c = λ is.
+returns-clause-summary g c = λ is.
     let s = c.args.scene.now in
     let r = c.args.renderer.now in
     let frames = c.step-frames.result in
@@ -111,7 +111,7 @@ returns-clause-summary c = λ is.
     summary_more s (files_of r.tapes) r.clock frames c.block.new.self.clock c.args.summary c.extended.result c.block.new.out c.as_slice.result.now clock samples bytes c.extended.ensures is
 
 pub returns-clause-next : goal.returns-clause-next
-returns-clause-next c =
+returns-clause-next g c =
     let r = c.args.renderer.now in
     let frames = c.step-frames.result in
     let q = c.make_ready.new.renderer in
@@ -119,7 +119,7 @@ returns-clause-next c =
     block_next r q c.block.new.self frames c.requires.fresh asked c.block.ensures.next
 
 pub returns-clause-tapes : goal.returns-clause-tapes
-returns-clause-tapes c =
+returns-clause-tapes g c =
     let r = c.args.renderer.now in
     let frames = c.step-frames.result in
     let q = c.make_ready.new.renderer in

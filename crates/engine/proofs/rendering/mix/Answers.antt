@@ -12,8 +12,8 @@ use Rattle.engine.specs.RunAnswers.{answer_of}
 use Rattle.engine.proofs.TapeClips.{whole_files}
 use Rattle.engine.proofs.rendering.mix.Goals as goal
 
-pub write_out-requires-clause-whole : goal.write_out-requires-clause-whole
-write_out-requires-clause-whole g c = subst AreShown (sym (ap (λ (r : RendererData). r.tapes) c.in_ok-renderer.ensures)) c.in_ok-tapes.ensures.whole
+pub write_out-requires-clause-shows : goal.write_out-requires-clause-shows
+write_out-requires-clause-shows g c = subst AreShown (sym (ap (λ (r : RendererData). r.tapes) c.in_ok-renderer.ensures)) c.in_ok-tapes.ensures.whole
 
 pub returns-clause-after : goal.returns-clause-after
 returns-clause-after g c =

@@ -1,13 +1,10 @@
-use Rattle.std.proofs.Common.{None, false, List, rules, refl, sym, ◌∙◌, ap}
+use Rattle.std.proofs.Common.{List, rules, refl, sym, ◌∙◌, ap}
 use Rattle.scene_model.specs.SceneData.{SceneData}
 use Rattle.resource_mgr.specs.Tapes.{files_of}
 use Rattle.resource_mgr.specs.declared.tape.Tape.{Tape}
 use Rattle.mix_model.specs.Mix.{clips_of}
-use Rattle.engine.specs.RendererData.{RendererData}
+use Rattle.engine.specs.RendererData.{at_first_frame}
 use Rattle.engine.proofs.renderer.Renderer.open.Goals as goal
-
-abbrev view_of : SceneData → List Tape → RendererData
-view_of s tapes = record { scene = s; tapes = tapes; clock = 0; next = None; ready = false }
 
 pub invariant_of-result : goal.invariant_of-result
 invariant_of-result c =
@@ -24,4 +21,4 @@ pub returns : goal.returns
 returns c =
     let p = c.in_ok-playback.playback in
     let did = c.in_ok-playback.ensures in
-    ap (λ (s : SceneData). view_of s p.tapes.items) did.scene ∙ ap (view_of c.args.scene.now) did.tapes
+    ap (λ (s : SceneData). at_first_frame s p.tapes.items) did.scene ∙ ap (at_first_frame c.args.scene.now) did.tapes

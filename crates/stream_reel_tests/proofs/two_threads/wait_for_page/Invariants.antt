@@ -1,0 +1,5 @@
+use Rattle.stream_reel.specs.Ends.{SameListener}
+use Rattle.stream_reel_tests.proofs.two_threads.wait_for_page.Given as goal
+
+abbrev pub invariant-loop : goal.invariant-loop
+invariant-loop l = SameListener l.initial.listener l.listener

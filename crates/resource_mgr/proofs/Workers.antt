@@ -1,5 +1,5 @@
 -- A worker between two jobs.
-use Rattle.std.proofs.Common.{◌≡◌, ◌⊎◌, inl, inr, ℕ, List, [], ◌∷◌, ◌++◌, All, map, refl, sym, ◌∙◌, ap, subst}
+use Rattle.std.proofs.Common.{◌≡◌, ℕ, List, [], ◌∷◌, ◌++◌, All, map, refl, sym, ◌∙◌, ap, subst}
 use Rattle.std.specs.Prelude.{Option, Some, None}
 use Rattle.std.proofs.lemmas.List.{append_assoc, append-nil, map-append}
 use Rattle.std.proofs.lemmas.List.Elements.{All-nil, All-push}
@@ -156,8 +156,3 @@ module _ (code : Work → Gv) (l : Library) (d m m' : Desk) (goes : Goes d m) wh
     all_pages = goes.all_pages;
     waits = subst (λ o. Waits o goes.waiting) (empty.none_kept.0 ∙ sym empty.none_kept.1) goes.waits;
   }
-
-  -- an early job, or none
-  pub goes_unless_quit : (worked : Worked) → ((resource : ℕ) × (page : ℕ) × (pointer : ℕ) × (worked ≡ answer.Early resource page pointer)) ⊎ (worked ≡ answer.Empty) → WorkedOne code l m m' worked → Goes d m'
-  goes_unless_quit worked (inl early) one = goes_next (answer.Early early.0 early.1 early.2) (subst (WorkedOne code l m m') early.3 one)
-  goes_unless_quit worked (inr empty) one = goes_next answer.Empty (subst (WorkedOne code l m m') empty one)

@@ -40,6 +40,7 @@ impl Tape {
         requires { length (clip_of_reader reader).bytes ≤ most_sound_bytes }
         ensures { result.reader ≡ reader }
     {
+        // A clip's wave is what its bytes say: the call tells it, and the tape keeps it.
         let _wave = reader.clip().wave();
         Tape { reader, first: 0 }
     }

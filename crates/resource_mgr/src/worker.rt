@@ -17,7 +17,12 @@ use exec_reel::{Ran, Reel, Ticket};
 use slot_tags::SlotTag;
 use snd_io::Gate;
 use std::sync::Wait;
+use std::sync::atomic::AtomicU64;
 use std::thread;
+use std::time::Duration;
+
+/// How long a worker sleeps where there is no job, in milliseconds.
+const PAUSE_MILLIS: u64 = 1;
 
 impl Library {
     /// Runs one job: the one that the desk keeps, or else the one at the front, if there is one. A page's job whose turn
@@ -50,18 +55,21 @@ impl Library {
         }
     }
 
-    /// Runs jobs until it came by a [`Work::Quit`].
+    /// Runs jobs until it came by a [`Work::Quit`]. Where there is no job it sleeps for a millisecond.
     pub fn worker<R: Wait, G: Gate>(&self, rt: &R, desk: &mut Desk, gate: &G)
         requires { IsDeskOf self.now desk.old }
         ensures desk { IsDeskOf self.now desk.new × (desk_number desk.new ≡ desk_number desk.old) }
         ensures stopped { StoppedByQuit desk.old desk.new }
         ensures jobs { NoneLost desk.old desk.new }
     {
+        let idle = AtomicU64::new(0);
+        let pause = Duration::from_millis(PAUSE_MILLIS);
         for _ in rt.forever() {
             match self.work_one(rt, desk, gate) {
                 Worked::Quit => return,
                 Worked::Ran { .. } => {}
-                Worked::Early { .. } | Worked::Empty => thread::yield_now(),
+                Worked::Early { .. } => thread::yield_now(),
+                Worked::Empty => idle.park_timeout(rt, 0, pause),
             }
         }
         unreachable!()

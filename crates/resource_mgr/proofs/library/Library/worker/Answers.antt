@@ -1,8 +1,8 @@
 use Rattle.std.proofs.Common.{◌∙◌, refl}
 use Rattle.resource_mgr.proofs.Balance.{first_none_lost, still_none_lost}
-use Rattle.resource_mgr.proofs.Workers.{goes_first, goes_next, goes_unless_quit}
+use Rattle.resource_mgr.proofs.Workers.{goes_first, goes_next}
 use Rattle.resource_mgr.specs.contracts.work.Work.{the_row}
-use Rattle.resource_mgr.specs.declared.work.Worked.TheVariants.{Ran, Quit}
+use Rattle.resource_mgr.specs.declared.work.Worked.TheVariants.{Ran, Early, Quit, Empty}
 use Rattle.resource_mgr.proofs.library.Library.worker.Goals as goal
 
 pub loop-init : goal.loop-init
@@ -27,13 +27,25 @@ loop-preserved-in-Ran g c =
       finite = tt;
     }
 
-pub loop-preserved : goal.loop-preserved
-loop-preserved g c =
-    let e = c.work_one.ensures in
+pub loop-preserved-in-Early : goal.loop-preserved-in-Early
+loop-preserved-in-Early g c =
+    let e = c.in-Early.ensures in
     record {
       desk = e.desk.0;
       number = e.desk.1 ∙ c.loop.invariant.number;
-      goes = goes_unless_quit the_row.coded.code c.args.self.now c.args.desk.now c.loop.desk c.work_one.new.desk c.loop.invariant.goes c.work_one.result c.in-Early.is e.worked;
+      goes = goes_next the_row.coded.code c.args.self.now c.args.desk.now c.loop.desk c.work_one.new.desk c.loop.invariant.goes (Early c.in-Early.resource c.in-Early.page c.in-Early.pointer) e.worked;
+      jobs = still_none_lost c.args.desk.now c.loop.desk c.work_one.new.desk c.loop.invariant.jobs e.jobs;
+      can_next = tt;
+      finite = tt;
+    }
+
+pub loop-preserved : goal.loop-preserved
+loop-preserved g c =
+    let e = c.in-Empty.ensures in
+    record {
+      desk = e.desk.0;
+      number = e.desk.1 ∙ c.loop.invariant.number;
+      goes = goes_next the_row.coded.code c.args.self.now c.args.desk.now c.loop.desk c.work_one.new.desk c.loop.invariant.goes Empty e.worked;
       jobs = still_none_lost c.args.desk.now c.loop.desk c.work_one.new.desk c.loop.invariant.jobs e.jobs;
       can_next = tt;
       finite = tt;

@@ -1,25 +1,26 @@
-//! Takes slots of one table and gives them back, in one thread or in two, for `bench/tags.sh`, and
-//! prints the number of takes.
+//! Takes slots of one table and gives them back, or posts jobs to one queue and takes them, in one thread or in two, for
+//! `bench/tags.sh` and `bench/jobs.sh`, and prints the number of takes.
 //!
-//! `tag_bench THREADS THOUSANDS` runs one thread or two, each with so many thousand rounds of a
-//! take, a lift and a give. With no words it runs a thousand rounds of each.
+//! `tag_bench [jobs] THREADS THOUSANDS` runs one thread or two, each with so many thousand rounds of a take, a lift and a
+//! give, or with `jobs` of a post, a taking and an end. With no words it runs a thousand rounds of each.
 #![tactic(auto)]
 
+mod job_rounds;
 mod order;
 mod rounds;
 
-use order::Order;
+use order::{Order, Work};
 use std::alloc::Global;
+use std::sync::Wait;
 use std::thread::Threads;
 use std::{env, io};
 
-const USAGE: &str = "usage: tag_bench [1|2 THOUSANDS]";
+const USAGE: &str = "usage: tag_bench [[jobs] 1|2 THOUSANDS]";
 
 fn main(rt: HostRuntime) -> io::Result<()> {
     let words: Vec<String> = env::args(&rt)?.skip(1).collect(rt.alloc())?;
     if words.is_empty() {
-        tell(&rt, rt.alloc(), Order::One(1))?;
-        return tell(&rt, rt.alloc(), Order::Two(1));
+        return tell_all(&rt, rt.alloc());
     }
     match Order::read(&words) {
         Some(order) => tell(&rt, rt.alloc(), order),
@@ -27,9 +28,31 @@ fn main(rt: HostRuntime) -> io::Result<()> {
     }
 }
 
+/// Runs a thousand rounds of each order, and prints their takes.
+fn tell_all<R: Threads + Wait + Sync + Print>(rt: &R, alloc: Global) -> io::Result<()> {
+    for work in [Work::Slots, Work::Jobs] {
+        for by_two in [false, true] {
+            tell(
+                rt,
+                alloc,
+                Order {
+                    work,
+                    by_two,
+                    thousands: 1,
+                },
+            )?;
+        }
+    }
+    Ok(())
+}
+
 /// Runs the order, and prints its takes.
-fn tell<R: Threads + Sync + Print>(rt: &R, alloc: Global, order: Order) -> io::Result<()> {
-    match rounds::takes(rt, alloc, order) {
+fn tell<R: Threads + Wait + Sync + Print>(rt: &R, alloc: Global, order: Order) -> io::Result<()> {
+    let takes = match order.work {
+        Work::Slots => rounds::takes(rt, alloc, order.by_two, order.thousands),
+        Work::Jobs => job_rounds::takes(rt, alloc, order.by_two, order.thousands),
+    };
+    match takes {
         Ok(takes) => println!(rt; "{takes}"),
         Err(error) => println!(rt; "no takes: {error}"),
     }

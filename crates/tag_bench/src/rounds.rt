@@ -2,14 +2,18 @@
 ghost use Rattle.std.specs.Prelude.{◌≡◌};
 ghost use Rattle.slot_tags.specs.Tags.{IsSeatOf};
 
-use crate::order::Order;
 use plain_data::OutOfMemory;
 use slot_tags::{SlotSeat, SlotTable};
 use std::alloc::Global;
 use std::thread::{Threads, join};
 
-/// The takes of all rounds that the order asks for, on a table of one group.
-pub fn takes<R: Threads + Sync>(rt: &R, alloc: Global, order: Order) -> Result<u64, OutOfMemory> {
+/// The takes of all rounds, so many thousand of each thread, on a table of one group.
+pub fn takes<R: Threads + Sync>(
+    rt: &R,
+    alloc: Global,
+    by_two: bool,
+    thousands: u32,
+) -> Result<u64, OutOfMemory> {
     let (table, mut seats) = SlotTable::<u64>::new(alloc, 1, 4_294_967_295, 2)?;
     let Some(second) = seats.pop() else {
         unreachable!()
@@ -17,9 +21,10 @@ pub fn takes<R: Threads + Sync>(rt: &R, alloc: Global, order: Order) -> Result<u
     let Some(first) = seats.pop() else {
         unreachable!()
     };
-    Ok(match order {
-        Order::One(thousands) => turns(&table, first, thousands),
-        Order::Two(thousands) => both(rt, &table, first, second, thousands),
+    Ok(if by_two {
+        both(rt, &table, first, second, thousands)
+    } else {
+        turns(&table, first, thousands)
     })
 }
 

@@ -1,7 +1,10 @@
+pub mod Board
 pub mod Depths
 pub mod Due
 pub mod Faults
+pub mod Histories
 pub mod Iteration
+pub mod Journals
 pub mod Laws
 pub mod Mix
 pub mod Moments
@@ -10,6 +13,7 @@ pub mod Output
 pub mod Playing
 pub mod Pulled
 pub mod ReadBack
+pub mod Readings
 pub mod Rendering
 pub mod Signals
 pub mod Spans

@@ -7,7 +7,7 @@ use Rattle.std.proofs.lemmas.Option.{none-some, same_Some}
 use Rattle.scene_model.specs.declared.bus.Bus.{Bus}
 use Rattle.scene_model.specs.declared.node_state.NodeState.{NodeState}
 use Rattle.scene_model.specs.PlanData.{PlanData}
-use Rattle.node_graph.specs.Board.{node_words, board}
+use Rattle.mix_model.specs.Board.{node_words, board}
 
 abbrev words : List NodeState → List ℕ → List ℕ
 words nodes gains = flat_map node_words nodes ++ gains

@@ -2,7 +2,7 @@
 
 ghost use Rattle.std.specs.Prelude.{◌≡◌, ◌+◌, ◌*◌, ◌<◌, Some, length, slice_get};
 ghost use Rattle.scene_model.specs.IsPlan.{IsNodeState};
-ghost use Rattle.node_graph.specs.Board as spec;
+ghost use Rattle.mix_model.specs.Board as spec;
 
 use scene_model::{NodeState, Plan};
 

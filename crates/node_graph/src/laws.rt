@@ -2,7 +2,7 @@
 
 ghost use Rattle.std.specs.Prelude.{◌≡◌, ◌+◌, ◌*◌, ℕ, length, if◌then◌else◌};
 ghost use Rattle.node_graph.specs.Attached.{attached, count_of, is_attached};
-ghost use Rattle.node_graph.specs.Board.{board};
+ghost use Rattle.mix_model.specs.Board.{board};
 
 use scene_model::{Bus, Plan};
 

@@ -3,7 +3,7 @@ ghost use Rattle.scene_model.specs.IsPlan.{can_apply};
 ghost use Rattle.scene_model.specs.Opening.{opening};
 ghost use Rattle.scene_model.specs.Plans.{after, is_sound, reply};
 ghost use Rattle.node_graph.specs.Attached.{attached};
-ghost use Rattle.node_graph.specs.Board.{board};
+ghost use Rattle.mix_model.specs.Board.{board};
 
 use crate::attached::write_attached;
 use crate::board::word;

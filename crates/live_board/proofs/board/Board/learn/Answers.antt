@@ -1,0 +1,8 @@
+use Rattle.std.proofs.Common.{arith}
+use Rattle.live_board.proofs.Moves.{learns}
+use Rattle.live_board.proofs.board.Board.learn.Goals as goal
+
+pub load-requires : goal.load-requires
+load-requires c =
+    let q = c.requires in let ws = c.args.self.now.words_are in
+    (q.0, omega arith, learns c.args.self.now.table.shared.key _ _ c.args.seat.now.me q.1)

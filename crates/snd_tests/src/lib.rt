@@ -30,3 +30,5 @@ mod sounds;
 mod system_files;
 #[cfg(test)]
 mod usages;
+#[cfg(test)]
+mod views;

@@ -108,14 +108,14 @@ fn a_large_scene_is_the_same_with_sixteen_workers(rt: HostRuntime) -> Result<(),
     Ok(())
 }
 
-/// A store with the scene of one sound of 600 samples, which fails at the third append and takes nothing.
-fn third_append_fails(alloc: Global) -> Result<MemDepot, OutOfMemory>
+/// A store with the scene of one sound of 600 samples, which fails at this append and takes nothing.
+fn append_fails(alloc: Global, call: u32) -> Result<MemDepot, OutOfMemory>
     ensures { IfOk result (λ depot. mem_writing depot ≡ None) }
 {
     let mut depot = six_hundred(alloc)?;
     let snag = Snag {
         appends_only: true,
-        call: 3,
+        call,
         taken: 0,
     };
     depot.fail(alloc, snag)?;
@@ -135,7 +135,25 @@ fn six_hundred(alloc: Global) -> Result<MemDepot, OutOfMemory>
     Ok(depot)
 }
 
-/// The header and the first block of 512 frames are there, and nothing of the second.
+/// Whether `render` with so many workers ends with 3 where this append fails, and leaves these bytes.
+fn leaves<R: Threads + Wait + Sync>(
+    rt: &R,
+    alloc: Global,
+    workers: &str,
+    call: u32,
+    left: Option<&[u8]>,
+) -> Result<bool, OutOfMemory> {
+    let words = ["render", "scene.toml", "out.wav", workers];
+    let mut depot = append_fails(alloc, call)?;
+    let (status, text) = render(rt, alloc, &mut depot, &words, &FreeGate)?;
+    Ok(
+        status.code() == 3
+            && text.as_slice() == b"depot failed\n".as_slice()
+            && depot.file("out.wav") == left,
+    )
+}
+
+/// The header has 44 bytes, the first block 1024 and the second one 176: what is left is whole appends.
 #[test]
 fn a_failing_append_leaves_the_blocks_before_it(rt: HostRuntime) -> Result<(), Fail> {
     let alloc = rt.alloc();
@@ -146,14 +164,15 @@ fn a_failing_append_leaves_the_blocks_before_it(rt: HostRuntime) -> Result<(), F
         return Err(Fail::from("no file"));
     };
     assert_eq!(rt; all.len(), 1244);
-    for workers in ["0", "1", "16"] {
+    for workers in ["0", "1", "3", "16"] {
+        assert!(rt; leaves(&rt, alloc, workers, 1, all.get(..0))?, "{workers}");
+        assert!(rt; leaves(&rt, alloc, workers, 2, all.get(..44))?, "{workers}");
+        assert!(rt;
+            leaves(&rt, alloc, workers, 3, all.get(..1068))?,
+            "{workers}"
+        );
         let words = ["render", "scene.toml", "out.wav", workers];
-        let mut depot = third_append_fails(alloc)?;
-        let (status, text) = render(&rt, alloc, &mut depot, &words, &FreeGate)?;
-        assert_eq!(rt; status.code(), 3);
-        assert_eq!(rt; text.as_slice(), b"depot failed\n".as_slice());
-        assert!(rt; depot.file("out.wav") == all.get(..1068), "{workers}");
-        let mut depot = six_hundred(alloc)?;
+        let mut depot = append_fails(alloc, 4)?;
         let (status, _) = render(&rt, alloc, &mut depot, &words, &FreeGate)?;
         assert_eq!(rt; status.code(), 0);
         assert!(rt; depot.file("out.wav") == Some(all), "{workers}");
@@ -223,15 +242,15 @@ fn two_sounds(alloc: Global) -> Result<SureDepot, OutOfMemory>
     depot_of(alloc, TWO_SOUNDS, &files)
 }
 
-/// A gate at which the first page of the first resource is decoded only after that of the second.
-fn second_first(alloc: Global, turns: u32) -> Result<HoldGate, OutOfMemory> {
+/// A gate at which the first page of one resource is decoded only after that of the other one, which is `first`.
+fn other_after(alloc: Global, first: u32, turns: u32) -> Result<HoldGate, OutOfMemory> {
     let order = [
         Event::AfterJob {
-            resource: 1,
+            resource: first,
             page: 0,
         },
         Event::BeforeJob {
-            resource: 0,
+            resource: u32::from(first == 0),
             page: 0,
         },
     ];
@@ -245,11 +264,13 @@ fn two_workers_decode_at_once(rt: HostRuntime) -> Result<(), Fail> {
     let mut depot = two_sounds(alloc)?;
     run(alloc, &mut depot, MIX)?;
     let words = ["render", "scene.toml", "again.wav", "2"];
-    let gate = second_first(alloc, 10_000_000)?;
-    let (status, _) = render(&rt, alloc, &mut depot, &words, &gate)?;
-    assert_eq!(rt; status.code(), 0);
-    assert!(rt; gate.kept());
-    assert!(rt; depot.file("out.wav") == depot.file("again.wav"));
+    for first in [1, 0] {
+        let gate = other_after(alloc, first, 10_000_000)?;
+        let (status, _) = render(&rt, alloc, &mut depot, &words, &gate)?;
+        assert_eq!(rt; status.code(), 0);
+        assert!(rt; gate.kept());
+        assert!(rt; depot.file("out.wav") == depot.file("again.wav"));
+    }
     Ok(())
 }
 
@@ -258,7 +279,7 @@ fn without_workers_the_first_resource_is_decoded_first(rt: HostRuntime) -> Resul
     let alloc = rt.alloc();
     let mut depot = two_sounds(alloc)?;
     let words = ["render", "scene.toml", "out.wav", "0"];
-    let gate = second_first(alloc, 1000)?;
+    let gate = other_after(alloc, 1, 1000)?;
     let (status, _) = render(&rt, alloc, &mut depot, &words, &gate)?;
     assert_eq!(rt; status.code(), 0);
     assert!(rt; !gate.kept());

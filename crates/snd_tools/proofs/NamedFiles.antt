@@ -11,9 +11,9 @@ use Rattle.resource_mgr.specs.declared.lib_fault.LibFault.{LibFault}
 use Rattle.snd_status.specs.declared.status.Status.{Status}
 use Rattle.clip_decode.specs.Limits.{most_sound_bytes}
 use Rattle.fx_nodes.specs.declared.effect.Effect.{Effect}
-use Rattle.snd_tools.specs.Commands.{Command, Mix, Info, Gen, Fx, Render}
+use Rattle.snd_tools.specs.Commands.{Command, Mix, Info, Gen, Fx, Render, View}
 use Rattle.snd_tools.specs.Laws.{AgreeFor, AgreeOn, AgreeOnScene, AgreeOnSounds}
-use Rattle.snd_tools.specs.Outcome.{command_result, fx_outcome, fx_rendering, mix_outcome, rendered, rendered_to, rendering, only_line, survey_line}
+use Rattle.snd_tools.specs.Outcome.{command_result, fx_outcome, fx_rendering, mix_outcome, rendered, rendered_to, rendering, only_line, picture_at, survey_line}
 use Rattle.snd_tools.specs.Reading.{◌>>=◌, fetched_or_status, file_read, scene_read, sound_file_read, sounds_read}
 use Rattle.snd_tools.proofs.NamedClips.{clips-same, clips-refused, clips-named, status-first}
 
@@ -55,6 +55,7 @@ module _ (a b : Files) where
   outcome-same (Fx file out count effects) agree =
       ap (λ content. (sound_file_read file content >>= λ bytes. Ok (fx_rendering bytes effects count)) >>= λ r. Ok (rendered_to out r)) agree
   outcome-same (Render scene out workers) agree = mix_outcome-same scene out agree
+  outcome-same (View scene frame) agree = ap (λ content. (scene_read scene content >>= picture_at frame) >>= λ text. Ok (only_line text)) agree
 
   -- what SCENE is refused for
   pub scene-refused : (scene out : List ℕ) (status : Status) → AgreeOn a b scene → scene_read scene (get a scene) ≡ Err status → mix_outcome b scene out ≡ Err status

@@ -8,6 +8,7 @@ use Rattle.fx_nodes.specs.Effects.{most_effects}
 use Rattle.fx_nodes.specs.Words.{effect_of_word}
 use Rattle.fx_nodes.specs.declared.effect.Effect.{Effect}
 use Rattle.fx_render.specs.Effected.{most_frames}
+use Rattle.scene_model.specs.Limits as limits
 
 -- the bytes of a path
 abbrev pub most_path_bytes : ℕ
@@ -50,10 +51,15 @@ most_workers = 16
 abbrev pub most_count_digits : ℕ
 most_count_digits = 8
 
+-- FRAME of `sceneview`
+abbrev pub most_frame_digits : ℕ
+most_frame_digits = 8
+
 -- The programs, each with commands of its own.
 pub data Program : Type 0 where
   Scenetool : Program
   Scenerender : Program
+  Sceneview : Program
 
 pub data Command : Type 0 where
   -- mix SCENE OUT
@@ -66,6 +72,8 @@ pub data Command : Type 0 where
   Fx : List ℕ → List ℕ → ℕ → List Effect → Command
   -- render SCENE OUT WORKERS
   Render : List ℕ → List ℕ → ℕ → Command
+  -- SCENE FRAME
+  View : List ℕ → ℕ → Command
 
 -- The words after `mix`, or the place of the first word that doesn't fit. A missing or an extra word comes before the
 -- others, from left to right.
@@ -138,6 +146,17 @@ render_words (scene ∷ out ∷ word ∷ []) =
     else Err 1
 render_words (scene ∷ out ∷ word ∷ extra ∷ more) = Err 4
 
+-- the words of `sceneview`, in the same way: the frame is 0 where there is no word for it
+abbrev pub view_command : List ℕ → Option ℕ → Result Command ℕ
+view_command scene None = Err 1
+view_command scene (Some frame) = Ok (View scene frame)
+
+abbrev pub view_words : List (List ℕ) → Result Command ℕ
+view_words [] = Err 0
+view_words (scene ∷ []) = if is_path scene then Ok (View scene 0) else Err 0
+view_words (scene ∷ word ∷ []) = if is_path scene then view_command scene (number most_frame_digits limits.most_frames word) else Err 0
+view_words (scene ∷ word ∷ extra ∷ more) = Err 2
+
 -- the command of a program, or the place of the first word that doesn't fit
 abbrev pub command : Program → List (List ℕ) → Result Command ℕ
 command Scenetool [] = Err 0
@@ -149,3 +168,4 @@ command Scenetool (word ∷ words) =
     Err 0
 command Scenerender [] = Err 0
 command Scenerender (word ∷ words) = if bytes_eq word (codes "render") then render_words words else Err 0
+command Sceneview words = view_words words

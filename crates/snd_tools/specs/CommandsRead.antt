@@ -7,7 +7,8 @@ use Rattle.fx_render.specs.Effected.{most_frames}
 use Rattle.snd_tools.specs.declared.command.Command.{Command as HeldCommand}
 use Rattle.snd_tools.specs.declared.command.Command.TheVariants.{Mix as HeldMix, Info as HeldInfo, Gen as HeldGen, Fx as HeldFx}
 use Rattle.snd_tools.specs.declared.render_command.RenderCommand.{RenderCommand}
-use Rattle.snd_tools.specs.Commands.{Command, Mix, Info, Gen, Fx, Render}
+use Rattle.snd_tools.specs.declared.view_command.ViewCommand.{ViewCommand}
+use Rattle.snd_tools.specs.Commands.{Command, Mix, Info, Gen, Fx, Render, View}
 
 -- a command of `scenetool`
 abbrev pub said_command : HeldCommand → Command
@@ -19,6 +20,10 @@ said_command (HeldFx file out count effects) = Fx file.now out.now count effects
 -- the command of `scenerender`
 abbrev pub said_render : RenderCommand → Command
 said_render held = Render held.scene.now held.out.now held.workers
+
+-- the command of `sceneview`
+abbrev pub said_view : ViewCommand → Command
+said_view held = View held.scene.now held.frame
 
 abbrev pub GivesCommandBy : {Held : Type 0} → (Held → Command) → Result Held ℕ → Result Command ℕ → Type 0
 GivesCommandBy said (Ok held) command = command ≡ Ok (said held)

@@ -4,7 +4,7 @@ use Rattle.std.specs.FinMap.{get}
 use Rattle.scene_model.specs.SceneData.{SceneData}
 use Rattle.scene_model.specs.declared.resource.Resource.{Resource}
 use Rattle.snd_io.specs.Files.{Files}
-use Rattle.snd_tools.specs.Commands.{Command, Mix, Info, Gen, Fx, Render}
+use Rattle.snd_tools.specs.Commands.{Command, Mix, Info, Gen, Fx, Render, View}
 use Rattle.snd_tools.specs.Reading.{scene_read}
 
 -- two stores have the same under a name: the same bytes, or nothing
@@ -28,3 +28,4 @@ AgreeFor a b (Info file) = AgreeOn a b file
 AgreeFor a b (Gen number prefix) = Unit {0}
 AgreeFor a b (Fx file out count effects) = AgreeOn a b file
 AgreeFor a b (Render scene out workers) = AgreeOnScene a b scene
+AgreeFor a b (View scene frame) = AgreeOn a b scene

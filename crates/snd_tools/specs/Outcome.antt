@@ -13,6 +13,7 @@ use Rattle.mix_model.specs.Rendering.{summary_of}
 use Rattle.fx_nodes.specs.declared.effect.Effect.{Effect}
 use Rattle.fx_render.specs.Effected.{effected_summary, effected_wav, stereo, width}
 use Rattle.scene_clips.specs.ClipFrames.{file_rate}
+use Rattle.scene_view.specs.Wiring.{wiring}
 use Rattle.gen_scene.specs.Script.{script, script_from, script_name}
 use Rattle.gen_scene.specs.Sounds.{sounds, sound_file, sound_name}
 use Rattle.snd_io.specs.Files.{Files}
@@ -20,7 +21,7 @@ use Rattle.snd_status.specs.declared.mix_report.MixReport.{MixReport}
 use Rattle.snd_status.specs.declared.status.Status.{Status}
 use Rattle.snd_status.specs.declared.status.Status.TheVariants.{Usage}
 use Rattle.snd_status.specs.Texts.{mix_text, wave_text, status_text}
-use Rattle.snd_tools.specs.Commands.{Program, Command, Mix, Info, Gen, Fx, Render, command}
+use Rattle.snd_tools.specs.Commands.{Program, Command, Mix, Info, Gen, Fx, Render, View, command}
 use Rattle.snd_tools.specs.Reading.{◌>>=◌, file_read, scene_read, sound_file_read, sounds_read, surveyed}
 
 -- a file that is to be written
@@ -116,6 +117,15 @@ info_outcome files file = do
   text ← file_read most_sound_bytes file (get files file) >>= survey_line
   Ok (only_line text)
 
+-- `sceneview`: the picture of the wiring at a frame, which has several lines
+abbrev pub picture_at : ℕ → SceneData → Result (List ℕ) Status
+picture_at frame scene = Ok (wiring scene frame)
+
+abbrev pub view_outcome : Files → List ℕ → ℕ → Result Report Status
+view_outcome files scene frame = do
+  text ← scene_read scene (get files scene) >>= picture_at frame
+  Ok (only_line text)
+
 -- `fx`: what effects make of the first frames of a file, and the line of a rendering on it
 abbrev pub fx_report_of : List ℕ → List Effect → ℕ → MixReport
 fx_report_of bytes effects count = record {
@@ -169,6 +179,7 @@ command_result files (Info file) = info_outcome files file
 command_result files (Gen number prefix) = gen_outcome number prefix
 command_result files (Fx file out count effects) = fx_outcome files file out count effects
 command_result files (Render scene out workers) = mix_outcome files scene out
+command_result files (View scene frame) = view_outcome files scene frame
 
 abbrev pub command_outcome : Files → Command → Outcome
 command_outcome files command = comes_to (command_result files command)

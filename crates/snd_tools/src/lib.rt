@@ -1,5 +1,5 @@
-//! The commands of `scenetool` ([`run_tool`]) and of `scenerender` ([`run_render`]), from words to a status, over any
-//! store of files and any sink of text. [`DiskDepot`] and [`TextOut`] are the system's files and streams.
+//! The commands of `scenetool` ([`run_tool`]), of `scenerender` ([`run_render`]) and of `sceneview` ([`run_view`]), from words to
+//! a status, over any store of files and any sink of text. [`DiskDepot`] and [`TextOut`] are the system's files and streams.
 #![tactic(auto)]
 
 mod command;
@@ -21,6 +21,9 @@ mod render_tool;
 mod rendering;
 mod text_out;
 mod tool;
+mod view;
+mod view_command;
+mod view_tool;
 mod words;
 
 pub use disk_depot::DiskDepot;
@@ -30,3 +33,4 @@ pub use render_tool::run_render;
 pub use snd_status::Status;
 pub use text_out::TextOut;
 pub use tool::run_tool;
+pub use view_tool::run_view;

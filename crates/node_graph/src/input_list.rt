@@ -91,6 +91,11 @@ impl InputList {
         ensures rest { drop result into.new ≡ drop result into.old }
         ensures same { self.new ≡ self.old }
     {
+        if let Some(list) = &self.list {
+            if list.is_visited {
+                return list.write_to(into);
+            }
+        }
         let Some(list) = self.list.take() else {
             return 0;
         };

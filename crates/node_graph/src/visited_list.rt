@@ -21,7 +21,7 @@ pub(crate) struct VisitedList {
     list: Both<Feed>,
     edits: u64,
     numbers: Vec<u32>,
-    is_visited: bool,
+    pub(crate) is_visited: bool,
     ghost edits_are: { edits ≡ length (history_of list) },
     ghost room: { buses_of_list list ≤ vec_capacity numbers },
     ghost visited: { is_visited ≡ true → AreListed (history_of list) numbers.items × (length numbers.items ≤ buses_of_list list) },

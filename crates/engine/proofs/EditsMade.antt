@@ -8,7 +8,6 @@ use Rattle.std.proofs.lemmas.Option.{slice_get_cases}
 use Rattle.scene_clips.specs.SceneClipData.{SceneClipData}
 use Rattle.scene_model.specs.declared.edit.Edit.{Edit}
 use Rattle.scene_model.specs.declared.edit.Edit.TheVariants.{Attach, Detach, SetGain, Start, Stop, From, Until, Seek, Loop}
-use Rattle.scene_model.specs.declared.bus.Bus.{Bus}
 use Rattle.scene_model.specs.declared.bus_row.BusRow.{BusRow}
 use Rattle.scene_model.specs.declared.node.Node.{Node}
 use Rattle.scene_model.specs.declared.node.NodeKind.{NodeKind}

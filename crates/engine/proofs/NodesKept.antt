@@ -16,6 +16,7 @@ use Rattle.mix_model.specs.Signals.{kind_output}
 use Rattle.mix_model.proofs.Heard.{source_pulled}
 use Rattle.mix_model.proofs.Pulls.{pulled-solves}
 use Rattle.engine.specs.Nodes.{IsOrderOf, AreKept}
+use Rattle.engine.specs.Room.{AreOthersKept}
 use Rattle.engine.specs.Span.{Span, state_at, input_at, output_at, AreOutputs, AreInputs, FeedsKept, kept_at, node_places}
 
 -- ---- an input is what its node puts out, unless that is a sound
@@ -53,22 +54,18 @@ endpoint_fed s places order kept plan is all b among to active =
 
 -- ---- one more node is kept
 
-kept_place : (kept : List ℤ) (m j : ℕ) → at (kept_at kept m) j ≡ at kept (m * node_places + j)
+pub kept_place : (kept : List ℤ) (m j : ℕ) → at (kept_at kept m) j ≡ at kept (m * node_places + j)
 kept_place kept m j = get_or-drop (m * node_places) kept j (pos 0)
 
-pub node_kept : (s : Span) (places k n : ℕ) (order : List ℕ) (old new out : List ℤ) → places ≤ node_places → slice_index order k ≡ n
-    → ((j : ℕ) → j < places → at new (n * node_places + j) ≡ at out j) → ((m j : ℕ) → m ≢ n → j < node_places → at new (m * node_places + j) ≡ at old (m * node_places + j))
-    → AreOutputs s places n out → AreKept s places k order old → AreKept s places (k + 1) order new
-node_kept s places k n order old new out most here put others are before i less pulls j below = by_place (eqb (slice_index order i) n) refl (eqb i k) refl
+pub node_kept : (s : Span) (places k n : ℕ) (order : List ℕ) (old new : List ℤ) → places ≤ node_places → slice_index order k ≡ n
+    → AreOthersKept n old new → AreOutputs s places n (kept_at new n) → AreKept s places k order old → AreKept s places (k + 1) order new
+node_kept s places k n order old new most here others are before i less pulls j below = by_place (eqb (slice_index order i) n) refl (eqb i k) refl
   where
     moved : (m : ℕ) → m ≢ n → at (kept_at new m) j ≡ at (kept_at old m) j
     moved m apart = kept_place new m j ∙ others m j apart (omega (arith, below, most)) ∙ sym (kept_place old m j)
 
-    own : at (kept_at new n) j ≡ output_at s n j
-    own = kept_place new n j ∙ put j below ∙ are j below
-
     by_place : (a : Bool) → eqb (slice_index order i) n ≡ a → (b : Bool) → eqb i k ≡ b → at (kept_at new (slice_index order i)) j ≡ output_at s (slice_index order i) j
-    by_place true e b f = subst (λ m. at (kept_at new m) j ≡ output_at s m j) (sym (eqb-true (slice_index order i) n e)) own
+    by_place true e b f = subst (λ m. at (kept_at new m) j ≡ output_at s m j) (sym (eqb-true (slice_index order i) n e)) (are j below)
     by_place false e true f = absurd (eqb-false (slice_index order i) n e (ap (slice_index order) (eqb-true i k f) ∙ here))
     by_place false e false f =
         let other = eqb-false i k f in

@@ -17,7 +17,7 @@ use Rattle.mix_model.specs.Spans.{IsSteady}
 use Rattle.engine.specs.declared.playback.Playback.{Playback}
 use Rattle.engine.specs.Nodes.{IsPlayable, IsSpanOf, IsSoundOf}
 use Rattle.engine.specs.Sounds.{ArePlayed, IsPlayedAt, PlaysFrom}
-use Rattle.engine.specs.Span.{Span, state_at, AreOutputs, IsSteadyAt}
+use Rattle.engine.specs.Span.{Span, state_at, AreOutputs, IsSteadyAt, node_places}
 use Rattle.engine.proofs.PlayedParts.{sound_outputs}
 
 of_all : {X : Type 0} (P : X → Type 0) (xs : List X) (k : ℕ) (x : X) → All P xs → slice_get xs k ≡ Some x → P x
@@ -52,11 +52,11 @@ sound_heard s p n resource count c xs is below (starts, kind) there span pulls p
 
 -- a resource that isn't there is silent
 pub silence_put_out : (s : Span) (p : Playback) (n resource count places : ℕ) (xs : List ℤ) → IsSoundOf resource (node p.stage n).kind → slice_get p.clips.items resource ≡ None
-    → IsSpanOf s p count → ((j : ℕ) → at xs j ≡ pos 0) → AreOutputs s places n xs
-silence_put_out s p n resource count places xs (starts, kind) none span silent j below =
+    → IsSpanOf s p count → places ≤ node_places → ((j : ℕ) → j < node_places → at xs j ≡ pos 0) → AreOutputs s places n xs
+silence_put_out s p n resource count places xs (starts, kind) none span few silent j below =
     let is : (node s.first.plan n).kind ≡ Sound resource starts = ap (λ (q : PlanData). (node q n).kind) span.plan_is ∙ kind in
     let absent : slice_get s.first.clips resource ≡ None = ap (λ (cs : List SceneClipData). slice_get cs resource) span.clips_are ∙ none in
-    silent j
+    silent j (omega (arith, below, few))
     ∙ sym (ap (λ (o : Option SceneClipData). option_map_or (λ (x : SceneClipData). sample_at x ((state_at s j).cursor n) (j % s.channels)) o (pos 0)) absent)
     ∙ sym (ap (λ (k : NodeKind). kind_output s.first.clips (j % s.channels) ((state_at s j).cursor n) (input (state_at s j) (j % s.channels) n) k) is)
 
@@ -89,10 +89,10 @@ played_here p n resource is below sound = by_option (slice_get p.clips.items res
 
 pub resource_heard : (s : Span) (p : Playback) (n resource count : ℕ) (xs : List ℤ) → IsPlayable p → n < length p.stage.nodes → IsSoundOf resource (node p.stage n).kind → IsSpanOf s p count → pulled p.stage p.time n ≡ true
     → IfSome (slice_get p.clips.items resource) (λ (c : SceneClipData). ArePlayed c (node p.stage n).looped (slice_index p.cursors n) (count * c.channels) xs)
-    → (slice_get p.clips.items resource ≡ None → (j : ℕ) → at xs j ≡ pos 0) → AreOutputs s (count * p.channels) n xs
-resource_heard s p n resource count xs is below sound span pulls heard silent = by_option (slice_get p.clips.items resource) refl heard
+    → count * p.channels ≤ node_places → (slice_get p.clips.items resource ≡ None → (j : ℕ) → j < node_places → at xs j ≡ pos 0) → AreOutputs s (count * p.channels) n xs
+resource_heard s p n resource count xs is below sound span pulls heard few silent = by_option (slice_get p.clips.items resource) refl heard
   where
     by_option : (o : Option SceneClipData) → slice_get p.clips.items resource ≡ o
         → IfSome o (λ (c : SceneClipData). ArePlayed c (node p.stage n).looped (slice_index p.cursors n) (count * c.channels) xs) → AreOutputs s (count * p.channels) n xs
-    by_option None e played = silence_put_out s p n resource count (count * p.channels) xs sound e span (silent e)
+    by_option None e played = silence_put_out s p n resource count (count * p.channels) xs sound e span few (silent e)
     by_option (Some c) e played = sound_heard s p n resource count c xs is below sound e span pulls played

@@ -1,6 +1,6 @@
 -- The room for the work on the nodes of a span.
-use Rattle.std.specs.Prelude.{◌≡◌, ◌≤◌, ◌*◌, length}
-use Rattle.mix_fixed.specs.Kernels.{AreSamples}
+use Rattle.std.specs.Prelude.{◌≡◌, ◌≢◌, ℕ, ◌+◌, ◌<◌, ◌≤◌, ◌*◌, ℤ, List, length}
+use Rattle.mix_fixed.specs.Kernels.{at, AreSamples}
 use Rattle.scene_model.specs.PlanData.{PlanData}
 use Rattle.engine.specs.declared.room.Room.{Room}
 use Rattle.engine.specs.FeedRoom.{HasFeedRoom}
@@ -13,3 +13,7 @@ pub record IsRoomFor (p : PlanData) (r : Room) : Type 0 where
   pub feeds_are : HasFeedRoom (length p.buses) r.feeds
   pub samples_are : length r.samples.items ≡ node_places
   pub samples_range : AreSamples r.samples.items
+
+-- the samples of all nodes but one are kept as they were
+abbrev pub AreOthersKept : ℕ → List ℤ → List ℤ → Type 0
+AreOthersKept n old new = (m j : ℕ) → m ≢ n → j < node_places → at new (m * node_places + j) ≡ at old (m * node_places + j)

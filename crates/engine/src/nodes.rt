@@ -9,9 +9,9 @@ ghost use Rattle.mix_model.specs.Pulled.{node, pulled};
 ghost use Rattle.engine.specs.Nodes.{AreKept, AreMarked, IsPlayable, IsSoundOf, IsSpanOf};
 ghost use Rattle.resource_mgr.specs.Tapes.{AreLater, files_of};
 ghost use Rattle.engine.specs.Needs.{IsMissingOf, IsNeeded};
-ghost use Rattle.engine.specs.Room.{IsRoomFor};
+ghost use Rattle.engine.specs.Room.{AreOthersKept, IsRoomFor};
 ghost use Rattle.engine.specs.Sounds.{ArePlayed, IsPlayedAt};
-ghost use Rattle.engine.specs.Span.{Span, AreOutputs, FeedsKept, most_span_frames, node_places};
+ghost use Rattle.engine.specs.Span.{Span, AreOutputs, FeedsKept, kept_at, most_span_frames, node_places};
 
 use crate::cached_clip::CachedClip;
 use crate::need::Need;
@@ -65,11 +65,10 @@ impl Playback {
             return Ok(());
         }
         self.render_node(n, count)?;
-        self.room.keep(n, count * self.channels);
         Ok(())
     }
 
-    /// Renders a node that is pulled.
+    /// Renders a node that is pulled, and keeps its outputs.
     fn render_node(&mut self, n: u32, count: usize) -> Result<(), Need>
         requires playable { IsPlayable self.old }
         requires node { n < length self.old.stage.nodes }
@@ -79,11 +78,11 @@ impl Playback {
         ensures clips { self.new.clips.items ≡ self.old.clips.items }
         ensures tapes { AreLater self.old.tapes.items self.new.tapes.items }
         ensures room { IsRoomFor self.old.stage self.new.room }
-        ensures kept { self.new.room.kept.items ≡ self.old.room.kept.items }
+        ensures others { AreOthersKept n self.old.room.kept.items self.new.room.kept.items }
         ensures need { IfErr result (λ need. IsNeeded self.old self.new.tapes.items count need.resource need.page need.shown) }
         ensures outputs { OnOk result ((s : Span) → IsSpanOf s self.old count →
             FeedsKept s (count * self.old.channels) n self.old.room.kept.items →
-            AreOutputs s (count * self.old.channels) n self.new.room.samples.items) }
+            AreOutputs s (count * self.old.channels) n (kept_at self.new.room.kept.items n)) }
     {
         let kind = self.stage.plan().nodes()[n as usize].kind;
         match resource_of(kind) {
@@ -91,12 +90,13 @@ impl Playback {
             None => {
                 let places = count * self.channels;
                 self.room.mix(&mut self.stage, n, self.time, places);
+                self.room.keep(n, places);
                 Ok(())
             }
         }
     }
 
-    /// Writes what a sound of this resource puts out, from its place in the clip on.
+    /// Writes what a sound of this resource puts out, from its place in the clip on, and keeps it.
     fn play_sound(&mut self, n: u32, resource: u32, count: usize) -> Result<(), Need>
         requires playable { IsPlayable self.old }
         requires node { n < length self.old.stage.nodes }
@@ -107,10 +107,10 @@ impl Playback {
         ensures clips { self.new.clips.items ≡ self.old.clips.items }
         ensures tapes { AreLater self.old.tapes.items self.new.tapes.items }
         ensures room { IsRoomFor self.old.stage self.new.room }
-        ensures kept { self.new.room.kept.items ≡ self.old.room.kept.items }
+        ensures others { AreOthersKept n self.old.room.kept.items self.new.room.kept.items }
         ensures need { IfErr result (λ need. IsNeeded self.old self.new.tapes.items count need.resource need.page need.shown) }
         ensures outputs { OnOk result ((s : Span) → IsSpanOf s self.old count →
-            AreOutputs s (count * self.old.channels) n self.new.room.samples.items) }
+            AreOutputs s (count * self.old.channels) n (kept_at self.new.room.kept.items n)) }
     {
         let looped = self.stage.plan().nodes()[n as usize].looped;
         let cursor = self.cursors[n as usize];
@@ -123,14 +123,15 @@ impl Playback {
             looped,
             cursor,
             count,
+            n,
             &mut self.room,
         )?;
         Ok(())
     }
 }
 
-/// Writes what a sound of this resource puts out over the next `count` frames, from its cursor on. Where there is no such
-/// resource, it is silent.
+/// Writes what a sound of this resource puts out over the next `count` frames, from its cursor on, as the outputs of node `n`.
+/// Where there is no such resource, it is silent.
 fn play_resource(
     clips: &mut [CachedClip],
     tapes: &mut [Tape],
@@ -138,28 +139,29 @@ fn play_resource(
     looped: bool,
     cursor: u64,
     count: usize,
+    n: u32,
     room: &mut Room,
 ) -> Result<(), Need>
     requires alike { files_of tapes.old ≡ map (λ (c : SceneClipData). c.bytes) clips.old }
     requires clip { IfSome (slice_get clips.old resource) (λ clip. IsPlayedAt clip cursor) }
-    requires samples { length room.old.samples.items ≡ node_places }
-    requires range { AreSamples room.old.samples.items }
+    requires room { (n + 1) * node_places ≤ length room.old.kept.items }
+    requires range { AreSamples room.old.kept.items }
     requires few { count ≤ most_span_frames }
     ensures clips { clips.new ≡ clips.old }
     ensures tapes { AreLater tapes.old tapes.new }
     ensures room { (p : PlanData) → IsRoomFor p room.old → IsRoomFor p room.new }
-    ensures kept { room.new.kept.items ≡ room.old.kept.items }
+    ensures others { AreOthersKept n room.old.kept.items room.new.kept.items }
     ensures need { IfErr result (λ need. (need.resource ≡ resource)
         × IsMissingOf clips.old looped cursor count tapes.old tapes.new resource need.page need.shown) }
-    ensures played { OnOk result (IfSome (slice_get clips.old resource) (λ clip. ArePlayed clip looped cursor (count * clip.channels) room.new.samples.items)) }
-    ensures silent { slice_get clips.old resource ≡ None → (j : ℕ) → at room.new.samples.items j ≡ pos 0 }
+    ensures played { OnOk result (IfSome (slice_get clips.old resource) (λ clip. ArePlayed clip looped cursor (count * clip.channels) (kept_at room.new.kept.items n))) }
+    ensures silent { slice_get clips.old resource ≡ None → (j : ℕ) → j < node_places → at (kept_at room.new.kept.items n) j ≡ pos 0 }
 {
     let k = resource as usize;
     if k >= clips.len() {
-        room.silence();
+        room.silence(n);
         return Ok(());
     }
-    match room.play(&mut clips[k], &mut tapes[k], looped, cursor, count) {
+    match room.play(n, &mut clips[k], &mut tapes[k], looped, cursor, count) {
         Ok(()) => Ok(()),
         Err(missing) => Err(missing.of_resource(resource)),
     }

@@ -1,6 +1,6 @@
 //! Room for the work on the nodes of a span.
 
-ghost use Rattle.std.specs.Prelude.{◌≡◌, ◌≢◌, ◌≤◌, ◌<◌, ◌+◌, ◌*◌, ℕ, pos, false, length, IfOk, OnOk, IfErr};
+ghost use Rattle.std.specs.Prelude.{◌≡◌, ◌≤◌, ◌<◌, ◌+◌, ◌*◌, ℕ, pos, false, length, IfOk, OnOk, IfErr};
 ghost use Rattle.mix_fixed.specs.Kernels.{at, AreSamples};
 ghost use Rattle.scene_clips.specs.ClipFrames.{clip_length};
 ghost use Rattle.scene_model.specs.Limits as limits;
@@ -8,9 +8,9 @@ ghost use Rattle.scene_model.specs.Plans.{is_sound};
 ghost use Rattle.scene_model.specs.PlanData.{PlanData};
 ghost use Rattle.resource_mgr.specs.Tapes.{IsLater, bytes_of};
 ghost use Rattle.engine.specs.Needs.{IsMissingAt};
-ghost use Rattle.engine.specs.Room.{IsRoomFor};
+ghost use Rattle.engine.specs.Room.{AreOthersKept, IsRoomFor};
 ghost use Rattle.engine.specs.Sounds.{ArePlayed};
-ghost use Rattle.engine.specs.Span.{Span, AreInputs, FeedsKept, IsSteadyAt, most_span_frames, node_places};
+ghost use Rattle.engine.specs.Span.{Span, AreInputs, FeedsKept, IsSteadyAt, kept_at, most_span_frames, node_places};
 
 use crate::cached_clip::CachedClip;
 use crate::feeds::{FeedRoom, NODE_PLACES};
@@ -62,45 +62,48 @@ impl Room {
         self.feeds.mix(stage, n, time, kept, places, samples);
     }
 
-    /// Writes what a sound puts out over the next `frames` frames, at most 512, from its cursor on.
+    /// Writes what a sound puts out over the next `frames` frames, at most 512, from its cursor on, as the outputs of node `n`.
     ///
     /// # Errors
     ///
     /// [`Missing`] where a page of the clip that it reads isn't shown yet.
     pub(crate) fn play(
         &mut self,
+        n: u32,
         clip: &mut CachedClip,
         tape: &mut Tape,
         looped: bool,
         cursor: u64,
         frames: usize,
     ) -> Result<(), Missing>
-        requires samples { length self.old.samples.items ≡ node_places }
-        requires range { AreSamples self.old.samples.items }
+        requires room { (n + 1) * node_places ≤ length self.old.kept.items }
+        requires range { AreSamples self.old.kept.items }
         requires tape { bytes_of tape.old ≡ clip.old.bytes }
         requires cursor { cursor ≤ clip_length clip.old.bytes clip.old.rate }
         requires channels_least { 1 ≤ clip.old.channels }
         requires channels_most { clip.old.channels ≤ 2 }
         requires few { frames ≤ most_span_frames }
         ensures room { (p : PlanData) → IsRoomFor p self.old → IsRoomFor p self.new }
-        ensures kept { self.new.kept.items ≡ self.old.kept.items }
+        ensures others { AreOthersKept n self.old.kept.items self.new.kept.items }
         ensures same { clip.new ≡ clip.old }
         ensures later { OnOk result (IsLater tape.old tape.new) }
         ensures missing { IfErr result (λ m. IsMissingAt clip.old looped cursor frames tape.old tape.new m.page m.shown) }
-        ensures played { OnOk result (ArePlayed clip.old looped cursor (frames * clip.old.channels) self.new.samples.items) }
+        ensures played { OnOk result (ArePlayed clip.old looped cursor (frames * clip.old.channels) (kept_at self.new.kept.items n)) }
     {
-        let samples = self.samples.as_mut_slice();
+        let from = n as usize * NODE_PLACES;
+        let samples = &mut self.kept.as_mut_slice()[from..from + NODE_PLACES];
         play_sound(clip, tape, looped, cursor, frames, samples)
     }
 
-    /// Writes silence.
-    pub(crate) fn silence(&mut self)
-        requires samples { length self.old.samples.items ≡ node_places }
+    /// Writes silence as the outputs of node `n`.
+    pub(crate) fn silence(&mut self, n: u32)
+        requires room { (n + 1) * node_places ≤ length self.old.kept.items }
         ensures room { (p : PlanData) → IsRoomFor p self.old → IsRoomFor p self.new }
-        ensures kept { self.new.kept.items ≡ self.old.kept.items }
-        ensures silent { (j : ℕ) → at self.new.samples.items j ≡ pos 0 }
+        ensures others { AreOthersKept n self.old.kept.items self.new.kept.items }
+        ensures silent { (j : ℕ) → j < node_places → at (kept_at self.new.kept.items n) j ≡ pos 0 }
     {
-        self.samples.fill(0);
+        let from = n as usize * NODE_PLACES;
+        self.kept.as_mut_slice()[from..from + NODE_PLACES].fill(0);
     }
 
     /// Keeps the first `places` samples of the node as those of node `n`.
@@ -111,8 +114,7 @@ impl Room {
         requires few { places ≤ node_places }
         ensures room { (p : PlanData) → IsRoomFor p self.old → IsRoomFor p self.new }
         ensures here { (j : ℕ) → j < places → at self.new.kept.items (n * node_places + j) ≡ at self.old.samples.items j }
-        ensures others { (m j : ℕ) → m ≢ n → j < node_places →
-            at self.new.kept.items (m * node_places + j) ≡ at self.old.kept.items (m * node_places + j) }
+        ensures others { AreOthersKept n self.old.kept.items self.new.kept.items }
     {
         let from = n as usize * NODE_PLACES;
         let samples = &self.samples.as_slice()[..places];

@@ -1,8 +1,8 @@
 -- The tapes of the renderer are those of the shelf.
-use Rattle.std.proofs.Common.{◌≡◌, ◌∙◌, ap, sym, refl, subst, List, ℕ}
+use Rattle.std.proofs.Common.{◌≡◌, ◌∙◌, ap, refl, subst, List, ℕ}
 use Rattle.std.specs.Prelude.{IfOk}
 use Rattle.snd_io.specs.Runs.{SetsFile}
-use Rattle.mix_model.specs.Mix.{clips_of, frames_from, mix}
+use Rattle.mix_model.specs.Mix.{clips_of, frames_from}
 use Rattle.mix_model.specs.Output.{wav}
 use Rattle.mix_model.specs.Rendering.{summary_of}
 use Rattle.mix_model.proofs.Written.{mix_is}

@@ -1,9 +1,8 @@
 -- The renderer is asked until all pages are shown.
-use Rattle.std.proofs.Common.{◌≡◌, ◌∙◌, Bool, true, false, Result, Ok, Err, refl, sym, ap, subst}
+use Rattle.std.proofs.Common.{◌≡◌, ◌∙◌, false, Result, Ok, Err, refl, sym, ap, subst}
 use Rattle.std.specs.Prelude.{OnErr}
 use Rattle.std.specs.Result.{is_ok}
 use Rattle.resource_mgr.specs.Tapes.{AreLater}
-use Rattle.resource_mgr.specs.declared.tape.Tape.{Tape}
 use Rattle.resource_mgr.proofs.Tapes.{laters_refl, laters_trans}
 use Rattle.engine.specs.RendererData.{RendererData}
 use Rattle.engine.proofs.decoding_desk.DecodingDeskPageSource.make_ready.Goals as goal

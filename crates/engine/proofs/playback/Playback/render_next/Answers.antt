@@ -1,14 +1,12 @@
-use Rattle.std.proofs.Common.{◌≡◌, ◌+◌, ◌*◌, ◌≤◌, ℤ, List, true, sym, ◌∙◌, ap, subst, arith, rules}
+use Rattle.std.proofs.Common.{◌≡◌, ◌*◌, ◌≤◌, true, sym, ◌∙◌, ap, subst, rules}
 use Rattle.scene_model.specs.PlanData.{PlanData}
 use Rattle.scene_model.specs.Reach.{HasNoCycle}
 use Rattle.mix_model.specs.OrderedBuses.{mark_at}
 use Rattle.mix_model.specs.Pulled.{pulled}
 use Rattle.resource_mgr.proofs.Tapes.{laters_refl}
-use Rattle.engine.specs.declared.playback.Playback.{Playback}
 use Rattle.engine.specs.Nodes.{IsOrderOf}
 use Rattle.engine.specs.Span.{node_places}
 use Rattle.engine.proofs.NodesKept.{feeds_kept, few_places, node_kept}
-use Rattle.mix_fixed.specs.Kernels.{at}
 use Rattle.engine.proofs.playback.Playback.render_next.Goals as goal
 
 pub returns-clause-next : goal.returns-clause-next
@@ -23,11 +21,8 @@ returns-clause-next c = λ s k span inside here kept.
     let order : IsOrderOf s.first.plan p.order.items = subst (λ (q : PlanData). IsOrderOf q p.order.items) (sym span.plan_is) c.requires.playable.order_is in
     let feeds = feeds_kept s places k n p.order.items p.room.kept.items none order inside here pulls_here kept in
     let are = c.in_ok-render_node.ensures.outputs s span feeds in
-    let wide : c.args.count * c.render_node.new.self.channels ≡ places = ap (λ (q : Playback). c.args.count * q.channels) c.in_ok-render_node.ensures.same in
     let most : places ≤ node_places = few_places c.args.count p.channels c.requires.few c.requires.playable.channels_most in
-    node_kept s places k n p.order.items p.room.kept.items c.keep.new.self.kept.items c.render_node.new.self.room.samples.items most here
-    (λ j below. c.keep.ensures.here j (omega (arith, below, wide)))
-    (λ m j apart below. c.keep.ensures.others m j apart below ∙ ap (λ (xs : List ℤ). at xs (m * node_places + j)) c.in_ok-render_node.ensures.kept) are kept
+    node_kept s places k n p.order.items p.room.kept.items c.render_node.new.self.room.kept.items most here c.in_ok-render_node.ensures.others are kept
 
 pub render_node-requires-clause-pulled : goal.render_node-requires-clause-pulled
 render_node-requires-clause-pulled c =

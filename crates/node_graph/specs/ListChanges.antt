@@ -9,8 +9,8 @@ use Rattle.scene_model.specs.declared.edit.Edit.{Edit}
 use Rattle.scene_model.specs.declared.edit.Edit.TheVariants.{Attach, Detach, SetGain, Start, Stop, From, Until, Seek, Loop}
 use Rattle.scene_model.specs.Wiring.{is_output, target}
 use Rattle.node_graph.specs.declared.feed.Feed.{Feed}
-use Rattle.node_graph.specs.declared.list_change.ListChange.{ListChange}
-use Rattle.node_graph.specs.declared.list_change.ListChange.TheVariants.{Attached, Detached, Unchanged}
+use Rattle.node_graph.specs.declared.list_changes.ListChange.{ListChange}
+use Rattle.node_graph.specs.declared.list_changes.ListChange.TheVariants.{Attached, Detached, Unchanged}
 use Rattle.node_graph.specs.ListData.{ListData, is_kept}
 
 -- the number of an output among all buses

@@ -12,8 +12,10 @@ const NODE_WORDS: u32 = 5;
 /// The first number that is past the place in the word of a seek, 2 ^ 47.
 const SEEK_UNIT: u64 = 140_737_488_355_328;
 
-/// The word at a place of the board.
-pub(crate) fn word(plan: &Plan, place: u32) -> u64
+/// The word at a place of the board of a plan: five words for each node, in the order of nodes
+/// (started, first frame, the frame from which on it isn't active, seeks, looped), and then the gain of
+/// each bus. It takes no memory. The place is one of the board.
+pub fn board_word(plan: &Plan, place: u32) -> u64
     requires { place < 5 * length plan.now.nodes + length plan.now.buses }
     ensures { slice_get (spec.board plan.now) place ≡ Some result }
 {

@@ -2,10 +2,11 @@ ghost use Rattle.std.specs.Prelude.{◌≡◌, ◌≤◌, ℕ, true, false, Opti
 ghost use Rattle.std.specs.Option.{option_map, option_map_or};
 ghost use Rattle.bus_list.specs.Limits.{most_buses};
 ghost use Rattle.node_graph.specs.ListChanges.{CanAttach, CanDetach, with_edit};
-ghost use Rattle.node_graph.specs.ListData.{ListData, AreListed, is_kept, list_numbers};
+ghost use Rattle.node_graph.specs.ListData.{ListData, AreListed, data_of, is_kept, list_numbers};
 
 use crate::feed::Feed;
 use crate::visited_list::VisitedList;
+use bus_list::Both;
 use plain_data::OutOfMemory;
 use std::alloc::Global;
 use std::marker::Model;
@@ -49,6 +50,16 @@ impl InputList {
     {
         let list = VisitedList::empty(alloc, buses)?;
         Ok(InputList { list: Some(list) })
+    }
+
+    /// The list itself, if there is one.
+    pub(crate) fn into_list(self) -> Option<Both<Feed>>
+        ensures { option_map data_of result ≡ self }
+    {
+        match self.list {
+            Some(list) => Some(list.into_list()),
+            None => None,
+        }
     }
 
     /// Whether there is a list, and it had fewer edits than it can count.

@@ -6,11 +6,12 @@ ghost use Rattle.scene_model.specs.Limits as limits;
 ghost use Rattle.scene_model.specs.Plans.{is_sound};
 ghost use Rattle.node_graph.specs.Attached.{leads_to};
 ghost use Rattle.node_graph.specs.ListChanges.{CanChange, changed};
-ghost use Rattle.node_graph.specs.ListData.{ListData, AreInputsOf, HadAtMost, IsInputOf, IsListOf};
+ghost use Rattle.node_graph.specs.ListData.{ListData, AreInputsOf, HadAtMost, IsInputOf, IsListOf, data_of};
 
 use crate::feed::Feed;
 use crate::input_list::InputList;
-use crate::list_change::ListChange;
+use crate::list_changes::ListChange;
+use bus_list::Both;
 use plain_data::OutOfMemory;
 use scene_model::{Bus, NodeKind, NodeState, Plan};
 use std::alloc::Global;
@@ -67,6 +68,24 @@ fn attached_to(alloc: Global, buses: &[Bus], node: u32) -> Result<InputList, Out
         }
     }
     Ok(input)
+}
+
+/// The linked list of the buses that are attached to a node, of which it has those of the opening as
+/// its first edits. It takes all the memory that it will ever need. The buses are at most 256.
+///
+/// # Errors
+///
+/// [`OutOfMemory`] where there is no memory.
+pub fn open_list(alloc: Global, buses: &[Bus], node: u32) -> Result<Both<Feed>, OutOfMemory>
+    requires { length buses.now ≤ limits.most_buses }
+    ensures list { IfOk result (λ list. IsListOf buses.now node (data_of list)) }
+    ensures edits { IfOk result (λ list. length (data_of list).history ≤ limits.most_buses) }
+{
+    let input = attached_to(alloc, buses, node)?;
+    let Some(list) = input.into_list() else {
+        unreachable!()
+    };
+    Ok(list)
 }
 
 /// Whether there is a node of that number, and it is a sound.

@@ -14,6 +14,9 @@
 //! no run, is no longer kept, and the buses of its node are read from the plan.
 //!
 //! A stage stands on one thread. All memory is taken by [`Stage::open`]; no later call takes any.
+//!
+//! A live run keeps the same plan and the same lists apart: [`open_list`] makes the list of an input,
+//! [`list_change`] says which list an edit changes, and [`board_word`] gives a word of the board.
 #![tactic(auto)]
 
 mod attached;
@@ -22,11 +25,14 @@ mod feed;
 mod input_list;
 mod inputs;
 mod laws;
-mod list_change;
+mod list_changes;
 mod stage;
 mod visit;
 mod visited_list;
 
+pub use board::board_word;
 pub use feed::Feed;
+pub use inputs::open_list;
 pub use laws::{each_attached_bus_is_listed_once, the_board_has_a_word_for_each_dial};
+pub use list_changes::{ListChange, list_change, number_of};
 pub use stage::Stage;

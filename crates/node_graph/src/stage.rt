@@ -6,10 +6,10 @@ ghost use Rattle.node_graph.specs.Attached.{attached};
 ghost use Rattle.mix_model.specs.Board.{board};
 
 use crate::attached::write_attached;
-use crate::board::word;
+use crate::board::board_word;
 use crate::input_list::InputList;
 use crate::inputs::{change, inputs_of};
-use crate::list_change::list_change;
+use crate::list_changes::list_change;
 use plain_data::OutOfMemory;
 use scene_model::{Edit, Plan, Reply, Scene, apply};
 use std::alloc::Global;
@@ -84,7 +84,7 @@ impl Stage {
         requires { place < 5 * length self.now.nodes + length self.now.buses }
         ensures { slice_get (board self.now) place ≡ Some result }
     {
-        word(&self.plan, place)
+        board_word(&self.plan, place)
     }
 
     /// Writes the numbers of the buses that are attached to a node, each once and in any order, to

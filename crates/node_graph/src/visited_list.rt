@@ -50,6 +50,13 @@ impl VisitedList {
         })
     }
 
+    /// The list itself.
+    pub(crate) fn into_list(self) -> Both<Feed>
+        ensures { data_of result ≡ data_of self.list }
+    {
+        self.list
+    }
+
     /// Whether the list had fewer edits than it can count.
     pub(crate) fn is_kept(&self) -> bool
         ensures { result ≡ is_kept (data_of self.now.list) }

@@ -7,7 +7,7 @@ use Rattle.scene_model.specs.Plans.{reply, made, is_done}
 use Rattle.scene_model.proofs.PlanStays.{written_back}
 use Rattle.node_graph.specs.ListData.{ListData, AreInputsOf}
 use Rattle.node_graph.specs.ListChanges.{list_change, changed, CanChange}
-use Rattle.node_graph.specs.declared.list_change.ListChange.{ListChange}
+use Rattle.node_graph.specs.declared.list_changes.ListChange.{ListChange}
 use Rattle.node_graph.proofs.Changes.{can_change}
 use Rattle.node_graph.proofs.ListsKept.{inputs_made}
 use Rattle.node_graph.proofs.stage.Stage.edit.Goals as goal

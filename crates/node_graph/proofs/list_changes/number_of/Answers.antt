@@ -1,6 +1,6 @@
 use Rattle.std.proofs.Common.{sym, ◌∙◌}
 use Rattle.node_graph.proofs.Wired.{number_here, number_none}
-use Rattle.node_graph.proofs.list_change.number_of.Goals as goal
+use Rattle.node_graph.proofs.list_changes.number_of.Goals as goal
 
 pub returns-then-is_output : goal.returns-then-is_output
 returns-then-is_output c =

@@ -5,7 +5,7 @@ use Rattle.std.proofs.lemmas.Option.{slice_get-get_or, slice_get-map}
 use Rattle.scene_model.specs.declared.bus.Bus.{Bus}
 use Rattle.scene_model.proofs.Steps.{no_bus, no_node}
 use Rattle.node_graph.proofs.BoardWords.{node_word, gain_word}
-use Rattle.node_graph.proofs.board.word.Goals as goal
+use Rattle.node_graph.proofs.board.board_word.Goals as goal
 
 pub bounds-buses-bus : goal.bounds-buses-bus
 bounds-buses-bus c =

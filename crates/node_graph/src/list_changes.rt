@@ -8,18 +8,29 @@ use crate::feed::Feed;
 use scene_model::{Bus, Edit, target};
 
 /// A change of one list.
-#[derive(Clone, Copy)]
-pub(crate) enum ListChange {
-    /// A bus is attached to the node `to`.
-    Attached { feed: Feed, to: u32 },
-    /// The bus of that number is detached from the node `from`.
-    Detached { bus: u32, from: u32 },
+#[derive(Debug, Clone, Copy, PartialEq, Eq)]
+pub enum ListChange {
+    /// A bus is attached to an input.
+    Attached {
+        /// The bus as it stands in the list.
+        feed: Feed,
+        /// The number of the node, or of the endpoint.
+        to: u32,
+    },
+    /// A bus is detached from an input.
+    Detached {
+        /// The number of the bus among those of all nodes.
+        bus: u32,
+        /// The number of the node, or of the endpoint.
+        from: u32,
+    },
     /// No list changes.
     Unchanged,
 }
 
-/// What the edit changes in the lists where it is done. The buses are those before the edit.
-pub(crate) fn list_change(buses: &[Bus], edit: &Edit) -> ListChange
+/// What the edit changes in the lists where it is done. The buses are those before the edit, at most
+/// 256.
+pub fn list_change(buses: &[Bus], edit: &Edit) -> ListChange
     requires { length buses.now ≤ limits.most_buses }
     ensures { result ≡ spec.list_change buses.now edit.now }
 {
@@ -47,8 +58,9 @@ pub(crate) fn list_change(buses: &[Bus], edit: &Edit) -> ListChange
     }
 }
 
-/// The number of an output among all buses.
-fn number_of(buses: &[Bus], node: u32, out: u8) -> Option<u32>
+/// The number of an output among all buses, of which there are at most 256, or `None` where no bus is
+/// that output.
+pub fn number_of(buses: &[Bus], node: u32, out: u8) -> Option<u32>
     requires { length buses.now ≤ limits.most_buses }
     ensures { result ≡ spec.number_of buses.now node out }
 {

@@ -1,0 +1,3 @@
+pub mod DialWords
+pub mod EditedLists
+pub mod StageEdits

@@ -1,0 +1,3 @@
+pub mod Dials
+pub mod InputEditors
+pub mod Stages

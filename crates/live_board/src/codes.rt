@@ -28,7 +28,8 @@ pub fn reply_code(reply: Reply) -> u64
 /// What a hand tells that has made so many edits, at most 2 ^ 29, the last of which was answered so.
 pub fn told_word(count: u64, last: Reply) -> u64
     requires { count ≤ 2 ^ 29 }
-    ensures { result ≡ count * 17179869184 + spec.reply_code last }
+    ensures word { result ≡ count * 17179869184 + spec.reply_code last }
+    ensures fits { spec.reply_code last < 17179869184 }
 {
     count * REPLY_CODES + reply_code(last)
 }

@@ -1,5 +1,5 @@
-//! What the seats of a board know. But for [`Opening`], no value of these is made: contracts alone
-//! speak of them.
+//! What the seats of a board know. But for [`Opening`] and [`Entry`], no value of these is made:
+//! contracts alone speak of them.
 use scene_model::Reply;
 use std::collections::LinkedList;
 
@@ -33,6 +33,7 @@ pub enum Note {
 }
 
 /// An edit in the journal.
+#[derive(Debug, Clone, Copy, PartialEq, Eq)]
 pub struct Entry {
     /// The number of its editor.
     pub editor: u64,

@@ -2,10 +2,9 @@
 use Rattle.std.proofs.Common.{◌≡◌, ℕ, zero, suc, ◌+◌, ◌*◌, ◌<◌, ◌≤◌, Bool, true, false, All, List, [], ◌∷◌, ◌++◌, length, map, get_or, set, replicate, Option, Some, None, refl, sym, ◌∙◌, ap, subst, arith}
 use Rattle.std.specs.Prelude.{slice_get, slice_index, nat_lt, if◌then◌else◌}
 use Rattle.std.specs.List.{flat_map}
-use Rattle.std.specs.Option.{option_map, option_map_or}
-use Rattle.std.proofs.lemmas.Bool.{and_parts, ltb-true, false_from_ne_true}
+use Rattle.std.specs.Option.{option_map}
+use Rattle.std.proofs.lemmas.Bool.{ltb-true, false_from_ne_true}
 use Rattle.std.proofs.lemmas.List.{get_or-map, get_or-set_same, length-map}
-use Rattle.std.proofs.lemmas.List.Elements.{All-get_or}
 use Rattle.std.proofs.lemmas.Option.{none-some, same_Some, slice_get-get_or}
 use Rattle.scene_model.specs.declared.bus.Bus.{Bus}
 use Rattle.scene_model.specs.declared.edit.Edit.{Edit}
@@ -15,7 +14,7 @@ use Rattle.scene_model.specs.IsPlan.{IsPlan, IsNodeState, HasTimesInRange, AreTi
 use Rattle.scene_model.specs.Limits as limits
 use Rattle.scene_model.specs.PlanData.{PlanData}
 use Rattle.scene_model.specs.Plans.{made, change_at, with_seek}
-use Rattle.scene_model.specs.Wiring.{is_output, bus_with_gain, with_gain, bus_with_target, with_target}
+use Rattle.scene_model.specs.Wiring.{is_output, bus_with_gain, with_gain, with_target}
 use Rattle.scene_model.proofs.Steps.{no_bus, no_node}
 use Rattle.mix_model.specs.Board.{switch, node_words, board}
 use Rattle.live_board.specs.Rule.{words_set}
@@ -23,7 +22,7 @@ use Rattle.node_graph.specs.ListChanges.{number_of}
 use Rattle.node_graph.proofs.BoardWords.{length-board}
 use Rattle.node_graph.proofs.OneOutput.{one_place}
 use Rattle.node_graph.proofs.Wired.{numbered, unnumbered}
-use Rattle.live_graph.specs.Dials.{dial_of, word_at, most_node_words, most_before, most_words}
+use Rattle.live_graph.specs.Dials.{dial_of, word_at, most_before, most_words}
 
 -- ---- one word of a node
 

@@ -1,15 +1,15 @@
 -- The lists of a stage after an edit.
-use Rattle.std.proofs.Common.{◌≡◌, ℕ, zero, suc, ◌+◌, ◌<◌, ◌≤◌, ◌^◌, Bool, true, false, List, [], ◌∷◌, ◌++◌, length, map, get_or, set, Option, Some, None, refl, sym, ◌∙◌, ap, subst, arith}
-use Rattle.std.specs.Prelude.{IfSome, if◌then◌else◌, slice_get}
+use Rattle.std.proofs.Common.{◌≡◌, ℕ, zero, suc, ◌<◌, ◌^◌, Bool, true, List, [], ◌∷◌, ◌++◌, length, get_or, set, Option, Some, None, refl, sym, ◌∙◌, ap}
+use Rattle.std.specs.Prelude.{IfSome, if◌then◌else◌}
 use Rattle.std.specs.Option.{option_map}
 use Rattle.std.proofs.lemmas.Bool.{lt-ltb}
-use Rattle.std.proofs.lemmas.List.{get_or_past, map-set, set_past}
+use Rattle.std.proofs.lemmas.List.{map-set}
 use Rattle.bus_list.specs.declared.history.Entry.{Entry}
 use Rattle.bus_list.specs.declared.history.Entry.TheVariants.{On, Off}
 use Rattle.node_graph.specs.declared.feed.Feed.{Feed}
 use Rattle.node_graph.specs.declared.list_changes.ListChange.{ListChange}
 use Rattle.node_graph.specs.declared.list_changes.ListChange.TheVariants.{Attached, Detached, Unchanged}
-use Rattle.node_graph.specs.ListChanges.{CanAttach, CanChange, CanDetach, changed, with_edit}
+use Rattle.node_graph.specs.ListChanges.{changed, with_edit}
 use Rattle.node_graph.specs.ListData.{ListData, is_kept}
 use Rattle.live_graph.specs.InputEditors.{EditorData, list_of, lists_of, entered, entered_at, editors_changed}
 use Rattle.live_graph.specs.Stages.{HadFewer}

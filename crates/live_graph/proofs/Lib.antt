@@ -1,3 +1,10 @@
+pub mod BlankParts
+pub mod BoardSteps
+pub mod Closing
+pub mod DeskSteps
 pub mod DialWords
 pub mod EditedLists
+pub mod Openings
+pub mod RunPlans
 pub mod StageEdits
+pub mod Telling

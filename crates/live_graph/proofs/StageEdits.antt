@@ -1,8 +1,7 @@
 -- What a live stage is after an edit that is done.
-use Rattle.std.proofs.Common.{◌≡◌, ℕ, ◌+◌, ◌*◌, ◌<◌, ◌≤◌, ◌^◌, Bool, true, false, List, [], length, map, Option, Some, None, refl, sym, ◌∙◌, ap, subst, arith}
-use Rattle.std.specs.Prelude.{IfSome, if◌then◌else◌, slice_index, IsTrue}
+use Rattle.std.proofs.Common.{◌≡◌, ℕ, ◌+◌, ◌*◌, ◌<◌, ◌≤◌, ◌^◌, Bool, true, List, [], length, Option, Some, None, refl, sym, ◌∙◌, ap, subst, arith}
+use Rattle.std.specs.Prelude.{IfSome, if◌then◌else◌, slice_index}
 use Rattle.std.proofs.lemmas.List.{length-map}
-use Rattle.scene_model.specs.declared.bus.Bus.{Bus}
 use Rattle.scene_model.specs.declared.edit.Edit.{Edit}
 use Rattle.scene_model.specs.IsPlan.{IsPlan, AreTimesInRange, names_nodes, may_seek, output_of}
 use Rattle.scene_model.specs.IsScene.{is_edit}
@@ -15,11 +14,11 @@ use Rattle.mix_model.specs.Board.{board}
 use Rattle.live_board.specs.declared.board.Board.{Board}
 use Rattle.live_board.specs.Rule.{words_set}
 use Rattle.node_graph.specs.ListChanges.{list_change, changed}
-use Rattle.node_graph.specs.ListData.{ListData, AreInputsOf}
+use Rattle.node_graph.specs.ListData.{AreInputsOf}
 use Rattle.node_graph.proofs.ListsKept.{inputs_made}
 use Rattle.live_graph.specs.Dials.{dial_of, dial_set, word_at, most_words}
-use Rattle.live_graph.specs.InputEditors.{EditorData, editors_changed, lists_of}
-use Rattle.live_graph.specs.Stages.{IsStage, IsBoardOf, IsDialOf, IsEdited, HadFewer, inputs_after, with_changes}
+use Rattle.live_graph.specs.InputEditors.{editors_changed, lists_of}
+use Rattle.live_graph.specs.Stages.{IsStage, IsBoardOf, IsDialOf, IsEdited, HadFewer, with_changes}
 use Rattle.live_graph.specs.declared.stage.LiveStage.{LiveStage}
 use Rattle.live_graph.proofs.DialWords.{sets_dial, dial_within, within_most}
 use Rattle.live_graph.proofs.EditedLists.{lists_changed}
@@ -60,9 +59,9 @@ dial_is b s e o w of_stage may is = if_some (λ place. IsDialOf b (after s.plan 
           within = omega arith;
           of_plan = of_new;
           in_range =
-            subst (λ (most : List ℕ). slice_index (board q) place ≤ slice_index most place)
-            (ap (λ (n : ℕ). most_words n (length q.buses)) nodes ∙ ap (most_words (length s.plan.nodes)) buses ∙ sym of_stage.most_is)
-            (within_most q place plan times of_new);
+              subst (λ (most : List ℕ). slice_index (board q) place ≤ slice_index most place)
+              (ap (λ (n : ℕ). most_words n (length q.buses)) nodes ∙ ap (most_words (length s.plan.nodes)) buses ∙ sym of_stage.most_is)
+              (within_most q place plan times of_new);
         }
 
 pub edited : (old : LiveStage) (e : Edit) (new : LiveStage) (q : PlanData) (o : Option ℕ) → MayBeDone old e → q ≡ after old.plan e → new.plan ≡ q → new.inputs.items ≡ editors_changed old.inputs.items (list_change old.plan.buses e) → new.seat.table_id ≡ old.seat.table_id → o ≡ dial_of old.plan e → new.seat.me ≡ (with_changes (word_at q o) old.seat.me.0, old.seat.me.1) → IsEdited old e new
@@ -84,9 +83,10 @@ stage_edited old e new w may few done changes =
     let inputs : new.inputs.items ≡ editors_changed old.inputs.items (list_change old.plan.buses e) = done.inputs_are ∙ ap (λ (d : Bool). if d then editors_changed old.inputs.items (list_change old.plan.buses e) else old.inputs.items) may.done in
     let lists : lists_of new.inputs.items ≡ changed (lists_of old.inputs.items) (list_change old.plan.buses e) = ap lists_of inputs ∙ lists_changed old.inputs.items (list_change old.plan.buses e) few in
     record {
+      plan_is = subst IsPlan (sym plan) (IsPlan-made old.plan e may.plan may.names may.may may.done);
       inputs_are =
-        subst (λ (p : PlanData). AreInputsOf p (lists_of new.inputs.items)) (sym plan)
-        (subst (AreInputsOf (made old.plan e)) (sym lists) (inputs_made old.plan e (lists_of old.inputs.items) may.plan may.names may.done w.inputs_are));
+          subst (λ (p : PlanData). AreInputsOf p (lists_of new.inputs.items)) (sym plan)
+          (subst (AreInputsOf (made old.plan e)) (sym lists) (inputs_made old.plan e (lists_of old.inputs.items) may.plan may.names may.done w.inputs_are));
       times_are = subst AreTimesInRange (sym done.plan_is) (times_after (length old.plan.nodes) old.plan e may.edit w.times_are);
       locks = ap (λ me. me.0.locks) done.stored ∙ w.locks;
       counted = ap (λ me. me.0.lock.stored) done.stored;

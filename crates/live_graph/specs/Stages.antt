@@ -1,8 +1,7 @@
 -- What a live stage keeps, and what an edit makes of it.
-use Rattle.std.specs.Prelude.{◌≡◌, ◌<◌, ◌≤◌, ℕ, ◌+◌, ◌*◌, true, false, List, [], ◌∷◌, ◌++◌, length, Option, None, Some, if◌then◌else◌, slice_index, slice_index_or}
-use Rattle.atomic_table.specs.Table.{Me}
+use Rattle.std.specs.Prelude.{◌≡◌, ◌<◌, ◌≤◌, ℕ, ◌+◌, ◌*◌, true, false, List, ◌++◌, length, Option, None, Some, if◌then◌else◌, slice_index, slice_index_or}
 use Rattle.scene_model.specs.declared.edit.Edit.{Edit}
-use Rattle.scene_model.specs.IsPlan.{AreTimesInRange}
+use Rattle.scene_model.specs.IsPlan.{AreTimesInRange, IsPlan}
 use Rattle.scene_model.specs.PlanData.{PlanData}
 use Rattle.scene_model.specs.Plans.{after, reply, is_done}
 use Rattle.mix_model.specs.Board.{board}
@@ -18,6 +17,7 @@ use Rattle.live_graph.specs.declared.stage.LiveStage.{LiveStage}
 -- The lists are those of the plan, whose times are in range. The seat stores for whoever holds the lock, and each change that
 -- it stored is counted.
 pub record IsStage (s : LiveStage) : Type 0 where
+  pub plan_is : IsPlan s.plan
   pub inputs_are : AreInputsOf s.plan (lists_of s.inputs.items)
   pub times_are : AreTimesInRange s.plan
   pub locks : s.seat.me.0.locks ≡ true

@@ -8,10 +8,23 @@
 //! in its word, and then counted.
 #![tactic(auto)]
 
+mod blank;
+mod desk;
 mod dials;
+mod hand;
 mod input_editor;
+mod mixer;
+mod opening;
+mod run;
+mod shared;
 mod stage;
 
+pub use blank::Blank;
 pub use dials::dial_of;
+pub use hand::Hand;
 pub use input_editor::InputEditor;
+pub use live_board::{Entry, Window};
+pub use mixer::Mixer;
+pub use run::Run;
+pub use shared::{Shared, SharedParts};
 pub use stage::LiveStage;

@@ -9,5 +9,5 @@ pub store_told-requires-clause-word : goal.store_told-requires-clause-word
 store_told-requires-clause-word g c = (
   Cycle 3,
   omega arith,
-  c.told_word-word.ensures ∙ ap (λ (me : Me'). told_word (me.0.hand.replies ++ Cycle 3 ∷ [])) (sym c.split_hand-hand.ensures.3),
+  c.told_word-word.ensures.word ∙ ap (λ (me : Me'). told_word (me.0.hand.replies ++ Cycle 3 ∷ [])) (sym c.split_hand-hand.ensures.3),
 )

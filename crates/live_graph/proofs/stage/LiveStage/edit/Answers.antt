@@ -1,18 +1,16 @@
-use Rattle.std.proofs.Common.{◌≡◌, true, List, Bool, length, Option, sym, ◌∙◌, ap, subst}
+use Rattle.std.proofs.Common.{◌≡◌, true, List, length, Option, sym, ◌∙◌, ap, subst}
 use Rattle.std.specs.Prelude.{IfSome}
 use Rattle.std.proofs.lemmas.Bool.{and_parts}
 use Rattle.scene_model.specs.IsPlan.{names_nodes, may_seek}
 use Rattle.scene_model.specs.Plans.{reply, is_done}
 use Rattle.scene_model.specs.PlanData.{PlanData}
 use Rattle.scene_model.proofs.PlanStays.{written_back}
-use Rattle.node_graph.specs.ListData.{ListData}
 use Rattle.node_graph.specs.ListChanges.{list_change, CanChange}
 use Rattle.node_graph.specs.declared.list_changes.ListChange.{ListChange}
 use Rattle.node_graph.proofs.Changes.{can_change}
-use Rattle.live_graph.specs.Dials.{dial_of}
 use Rattle.live_graph.specs.InputEditors.{EditorData, editors_changed, lists_of}
-use Rattle.live_graph.specs.Stages.{IsDialOf, IsEdited}
-use Rattle.live_graph.proofs.StageEdits.{MayBeDone, dial_is, edited, stage_edited}
+use Rattle.live_graph.specs.Stages.{IsDialOf}
+use Rattle.live_graph.proofs.StageEdits.{dial_is, edited, stage_edited}
 use Rattle.live_graph.proofs.stage.LiveStage.edit.Goals as goal
 
 pub change-requires-clause-can : goal.change-requires-clause-can

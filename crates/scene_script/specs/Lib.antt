@@ -1,12 +1,15 @@
 pub mod BusRows
 pub mod Checked
 pub mod EditRows
+pub mod FaultKeys
+pub mod FaultPlaces
 pub mod FaultText
 pub mod Fields
 pub mod FirstFault
 pub mod Headers
 pub mod KeysRead
 pub mod Limits
+pub mod Lines
 pub mod Names
 pub mod NodeRows
 pub mod Reads

@@ -112,6 +112,24 @@ pub enum SceneFault {
     },
 }
 
+impl TableKind {
+    ghost use Rattle.std.specs.Prelude.{◌≡◌};
+    ghost use Rattle.scene_script.specs.FaultText.{table_text};
+
+    /// The name of the table, in small letters. It is the key of its rows at the top level.
+    pub fn name(self) -> &'static str
+        ensures { result.now ≡ table_text self }
+    {
+        match self {
+            TableKind::Scene => "scene",
+            TableKind::Resource => "resource",
+            TableKind::Node => "node",
+            TableKind::Bus => "bus",
+            TableKind::Edit => "edit",
+        }
+    }
+}
+
 /// The name of the table, in small letters.
 impl fmt::Display for TableKind {
     ghost use Rattle.std.specs.Prelude.{Some};

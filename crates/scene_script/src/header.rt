@@ -19,7 +19,7 @@ const TOP: Place = Place {
 };
 
 /// Its keys.
-const TOP_KEYS: [&str; 9] = [
+pub(crate) const TOP_KEYS: [&str; 9] = [
     "version", "rate", "channels", "width", "length", "resource", "node", "bus", "edit",
 ];
 

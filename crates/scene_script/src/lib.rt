@@ -29,10 +29,14 @@ mod bus_rows;
 mod edit_keys;
 mod edit_rows;
 mod fault;
+mod fault_keys;
+mod fault_place;
+mod fault_rows;
 mod fields;
 mod header;
 mod laws;
 mod limits;
+mod lines;
 mod names;
 mod node_keys;
 mod node_rows;
@@ -45,6 +49,8 @@ mod script_error;
 mod table_rows;
 
 pub use fault::{SceneFault, TableKind, Which};
+pub use fault_keys::RowForm;
+pub use fault_place::{FaultPlace, locate};
 pub use laws::{
     edits_are_done, faults_are_the_first, names_are_distinct, references_are_by_name,
     rows_are_read_in_order,

@@ -51,7 +51,7 @@ impl KindWord {
     }
 
     #[tactic(auto, unfolding(crate::specs::NodeRows::word_at))]
-    fn at(row: &Table, place: Place) -> Result<KindWord, SceneFault>
+    pub(crate) fn at(row: &Table, place: Place) -> Result<KindWord, SceneFault>
         ensures { result ≡ spec.word_at place (table_view row.now) }
     {
         let word = text(row, place, "kind")?;

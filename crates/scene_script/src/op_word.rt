@@ -48,7 +48,7 @@ impl OpWord {
     }
 
     #[tactic(auto, unfolding(crate::specs::EditRows::op_at))]
-    fn at(row: &Table, place: Place) -> Result<OpWord, SceneFault>
+    pub(crate) fn at(row: &Table, place: Place) -> Result<OpWord, SceneFault>
         ensures { result ≡ spec.op_at place (table_view row.now) }
     {
         let word = text(row, place, "op")?;

@@ -30,7 +30,7 @@ pub fn read_scene(alloc: Global, text: &[u8]) -> Result<Scene, ScriptError>
 
 /// The table of a TOML document.
 #[tactic(auto, unfolding(crate::specs::Script::document), using(crate::proofs::Documents::document_read, crate::proofs::Documents::document_refused))]
-fn document(alloc: Global, text: &[u8]) -> Result<Table, ScriptError>
+pub(crate) fn document(alloc: Global, text: &[u8]) -> Result<Table, ScriptError>
     ensures { GivesAs table_view result (spec.document text.now) }
 {
     match toml::table_from_slice(alloc, text) {

@@ -1,0 +1,3 @@
+pub mod FileHints
+pub mod ScriptHints
+pub mod StatusHints

@@ -1,0 +1,30 @@
+//! The format of the WAVE file that a cut is written to.
+
+ghost use Rattle.std.specs.Prelude.{◌≡◌, ◌≤◌};
+ghost use Rattle.cut_render.specs.Cut.{channels_for, file_bytes};
+ghost use Rattle.cut_render.specs.Segments.{most_frames};
+
+use wave_read::Wave;
+
+/// The bits of its samples.
+pub const WIDTH: u8 = 24;
+
+/// Its channels: one where the sound has one, and else two.
+pub fn channels_of(wave: &Wave) -> u8
+    ensures channels { result ≡ channels_for wave.now.channels }
+    ensures least { 1 ≤ result }
+    ensures most { result ≤ 2 }
+{
+    if wave.channels == 1 { 1 } else { 2 }
+}
+
+/// The number of bytes of the file of at most 16777216 frames in one or two channels: 44 of the header, 3 of each sample, and
+/// the pad byte if there is one.
+pub fn file_bytes(channels: u8, count: u32) -> u64
+    requires channels { channels ≤ 2 }
+    requires count { count ≤ most_frames }
+    ensures { result ≡ file_bytes channels count }
+{
+    let size = u64::from(count) * 3 * u64::from(channels);
+    44 + size + size % 2
+}

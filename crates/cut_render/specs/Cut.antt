@@ -37,7 +37,7 @@ abbrev pub cut_samples : List ℕ → List Segment → List ℤ
 cut_samples bytes segments = flat_map (λ (segment : Segment). piece bytes segment.place segment.count) segments
 
 -- The WAVE file of segments of a file, at its rate: the header, the packed samples, and the pad byte if there is one.
-abbrev pub cut_wav : List ℕ → List Segment → List ℕ
+unfoldable pub cut_wav : List ℕ → List Segment → List ℕ
 cut_wav bytes segments =
     header (cut_channels bytes) (file_rate bytes) width (total_frames segments)
     ++ packed width (cut_samples bytes segments)

@@ -1,7 +1,9 @@
 //! The format of the WAVE file that a cut is written to.
 
-ghost use Rattle.std.specs.Prelude.{◌≡◌, ◌≤◌};
-ghost use Rattle.cut_render.specs.Cut.{channels_for, file_bytes};
+ghost use Rattle.std.specs.Prelude.{◌≡◌, ◌≤◌, [], ◌∷◌, if◌then◌else◌};
+ghost use Rattle.mix_model.specs.Output.{padding};
+ghost use Rattle.wave_write.specs.Header.{data_bytes};
+ghost use Rattle.cut_render.specs.Cut.{channels_for, file_bytes, width};
 ghost use Rattle.cut_render.specs.Segments.{most_frames};
 
 use wave_read::Wave;
@@ -16,6 +18,15 @@ pub fn channels_of(wave: &Wave) -> u8
     ensures most { result ≤ 2 }
 {
     if wave.channels == 1 { 1 } else { 2 }
+}
+
+/// Whether a zero byte follows so many frames, at most 16777216, in one or two channels: where their data have an odd size.
+pub(crate) fn is_padded(channels: u8, count: u32) -> bool
+    requires channels { channels ≤ 2 }
+    requires count { count ≤ most_frames }
+    ensures { padding (data_bytes channels width count) ≡ if result then 0 ∷ [] else [] }
+{
+    count * (3 * u32::from(channels)) % 2 == 1
 }
 
 /// The number of bytes of the file of at most 16777216 frames in one or two channels: 44 of the header, 3 of each sample, and

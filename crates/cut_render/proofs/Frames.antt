@@ -26,7 +26,7 @@ pub channels_are : (bytes : List ℕ) (w : Wave) → wave bytes ≡ Ok w → cut
 channels_are bytes w said = ap (λ r. channels_for (channels_said r)) said
 
 -- a frame that the list has, in so many channels
-converted : (channels : ℕ) (list : List (List ℤ)) (n w : ℕ) → n < length list → in_channels channels (frame_or_silence w list n) ≡ frame_or_silence channels (all_in_channels channels list) n
+pub converted : (channels : ℕ) (list : List (List ℤ)) (n w : ℕ) → n < length list → in_channels channels (frame_or_silence w list n) ≡ frame_or_silence channels (all_in_channels channels list) n
 converted channels [] n w below = absurd (omega (arith, below))
 converted channels (frame ∷ list) zero w below = refl
 converted channels (frame ∷ list) (suc n) w below = converted channels list n w (omega (arith, below))

@@ -1,3 +1,4 @@
 pub mod Frames
 pub mod LongNumbers
+pub mod Sizes
 pub mod Written

@@ -1,6 +1,6 @@
 //! The file that segments of a clip are written to, in pieces.
 
-ghost use Rattle.std.specs.Prelude.{◌≡◌, ◌≤◌, ◌++◌, ℕ, ℤ, List, [], None, Some, IfOk, OnOk, IsSome};
+ghost use Rattle.std.specs.Prelude.{◌≡◌, ◌≤◌, ◌++◌, ℕ, ℤ, List, [], None, Some, IfOk, OnOk, IsSome, length};
 ghost use Rattle.engine.specs.RunAnswers.{answer_of};
 ghost use Rattle.mix_model.specs.Output.{padding};
 ghost use Rattle.snd_io.specs.Answers.{put_failed};
@@ -8,7 +8,7 @@ ghost use Rattle.snd_io.specs.Faults.{CountsFaults};
 ghost use Rattle.snd_io.specs.Runs.{RunOfAppends, SetsFile};
 ghost use Rattle.wave_write.specs.Header.{data_bytes};
 ghost use Rattle.wave_write.specs.Samples.{packed};
-ghost use Rattle.cut_render.specs.Cut.{cut_channels, cut_samples, cut_summary, cut_wav, piece, summary_of, width};
+ghost use Rattle.cut_render.specs.Cut.{cut_channels, cut_samples, cut_summary, cut_wav, file_bytes, piece, summary_of, width};
 ghost use Rattle.cut_render.specs.Reading.{IsReading};
 ghost use Rattle.cut_render.specs.Segments.{CanBeCut, last_place, most_frames, total_frames};
 
@@ -53,6 +53,7 @@ pub fn render_cut<D: Depot>(
     ensures closed { D.writing depot.new ≡ None }
     ensures cause { CountsFaults (D.faults depot.old) (D.faults depot.new) (put_failed (answer_of result)) }
     ensures summary { IfOk result (λ summary. summary ≡ cut_summary clip.bytes segments.now) }
+    ensures size { OnOk result (length (cut_wav clip.bytes segments.now) ≡ file_bytes (cut_channels clip.bytes) (total_frames segments.now)) }
 {
     let mut pieces = Pieces::open(alloc, clip)?;
     write_out(alloc, &mut pieces, segments, depot, out)
@@ -74,6 +75,8 @@ fn write_out<D: Depot>(
     ensures closed { D.writing depot.new ≡ None }
     ensures cause { CountsFaults (D.faults depot.old) (D.faults depot.new) (put_failed (answer_of result)) }
     ensures summary { IfOk result (λ summary. summary ≡ cut_summary pieces.old.reader.clip.bytes segments.now) }
+    ensures size { let bytes = pieces.old.reader.clip.bytes in
+        OnOk result (length (cut_wav bytes segments.now) ≡ file_bytes (cut_channels bytes) (total_frames segments.now)) }
 {
     done(depot.create(alloc, out))?;
     append_wav(alloc, pieces, segments, depot)?;
@@ -97,6 +100,8 @@ fn append_wav<D: Depot>(
         (D.files depot.old) (D.files depot.new) (D.writing depot.new) }
     ensures cause { CountsFaults (D.faults depot.old) (D.faults depot.new) (put_failed (answer_of result)) }
     ensures summary { OnOk result (pieces.new.summary ≡ cut_summary pieces.old.reader.clip.bytes segments.now) }
+    ensures size { let bytes = pieces.old.reader.clip.bytes in
+        OnOk result (length (cut_wav bytes segments.now) ≡ file_bytes (cut_channels bytes) (total_frames segments.now)) }
 {
     let wave = pieces.reader.clip.wave();
     let channels = channels_of(wave);

@@ -12,6 +12,7 @@ use Rattle.wave_write.specs.Samples.{packed}
 use Rattle.cut_render.specs.Cut.{cut_channels, cut_samples, cut_wav}
 use Rattle.cut_render.specs.Segments.{total_frames}
 use Rattle.cut_render.proofs.Frames.{channels_are}
+use Rattle.cut_render.proofs.Sizes.{on_ok, wav-size}
 use Rattle.cut_render.proofs.out_file.append_wav.Goals as goal
 
 pub returns-in_err-append-clause-after : goal.returns-in_err-append-clause-after
@@ -68,3 +69,7 @@ returns-clause-after g c = λ name is.
     (c.append_padding.ensures.after name second.1) in
     subst (λ (begin : List ℕ). RunOfAppends (answer_of c.append_padding.result) name ((begin ++ sound) ++ end) (g.D.Depot.files c.args.depot.now) (g.D.Depot.files c.append_padding.new.depot) (g.D.Depot.writing c.append_padding.new.depot)) start
     (run-then (answer_of c.append_padding.result) name (c.header.result ++ sound) end _ _ _ _ (GrowsBy-then name c.header.result sound _ _ _ first.0 second.0) last)
+
+pub returns-clause-size : goal.returns-clause-size
+returns-clause-size g c =
+    on_ok c.append_padding.result (wav-size c.args.pieces.now.reader.clip.bytes c.args.pieces.now.reader.clip.wave c.args.segments.now c.wave-wave.ensures.surveyed c.wave-wave.ensures.lawful.lies.channels_least)
